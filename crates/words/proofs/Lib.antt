@@ -1,0 +1,7 @@
+mod Cuts
+mod Fronts
+mod Pairs
+mod Values
+mod Written
+mod Again
+mod Zeros

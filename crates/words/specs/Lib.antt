@@ -1,0 +1,6 @@
+pub mod Bits
+pub mod Bytes
+pub mod Digits
+pub mod Hex
+pub mod Numbers
+pub mod Words
