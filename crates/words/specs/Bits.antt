@@ -9,8 +9,8 @@ use Rattle.words.specs.Bytes.{every, isKind}
 use Rattle.words.specs.declared.bits.Bits.{Bits}
 use Rattle.words.specs.declared.byte.Kind.the-variants.{Bit}
 
-abbrev pub digitsOf : Bits → List ℕ
-digitsOf b = b .digits .now
+abbrev pub bitDigits : Bits → List ℕ
+bitDigits b = b .digits .now
 
 -- What a text says as bits: `-` stands for none at all.
 abbrev pub bitsIn : List ℕ → Option (List ℕ)

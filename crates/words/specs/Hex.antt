@@ -8,8 +8,12 @@ use Rattle.std.specs.declared.option.Option.{Option}
 use Rattle.std.specs.declared.option.Option.the-variants.{Some, None}
 use Rattle.words.specs.Bytes.{between, every, isKind}
 use Rattle.words.specs.declared.byte.Kind.the-variants.{Hexadecimal}
+use Rattle.words.specs.declared.hex.Hex.{Hex}
 use Rattle.words.specs.declared.hex.NotHex.{NotHex}
 use Rattle.words.specs.declared.hex.NotHex.the-variants.{TooMany, NoDigit, Odd}
+
+abbrev pub hexDigits : Hex → List ℕ
+hexDigits h = h .digits .now
 
 -- The value of a digit, of which there are 0 to 9, a to f and A to F.
 abbrev pub hexValue : ℕ → ℕ

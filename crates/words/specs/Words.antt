@@ -1,7 +1,8 @@
 -- The words of a line. Assumes nothing.
-use mathlib.Core.Bool.{cond}
+use mathlib.Core.Bool.{Bool, true, false, cond}
 use mathlib.Core.List.{List, [], _∷_, _++_}
 use Prim.Native.Nat.{ℕ}
+use lib.Dec.{eqb}
 use Rattle.std.specs.declared.option.Option.{Option}
 use Rattle.std.specs.declared.option.Option.the-variants.{Some, None}
 use Rattle.words.specs.Bytes.{blank}
@@ -22,6 +23,16 @@ words bs = wordsAfter [] bs
 abbrev pub firstOf : {X : Type 0} → List X → Option X
 firstOf [] = None
 firstOf (x ∷ xs) = Some x
+
+-- A remark begins with `#`.
+abbrev pub remark : List ℕ → Bool
+remark [] = false
+remark (b ∷ bs) = eqb b 35
+
+-- A line without words is skipped, and so is a remark.
+abbrev pub skipped : List (List ℕ) → Bool
+skipped [] = true
+skipped (w ∷ ws) = remark w
 
 -- Words, written with one blank between each and the next.
 abbrev pub spaced : List (List ℕ) → List ℕ

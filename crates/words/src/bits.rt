@@ -2,7 +2,7 @@
 ghost use mathlib.Core.Path.{_≡_};
 ghost use Rattle.std.specs.Options.{mapped};
 ghost use Rattle.std.specs.declared.option.Option.the-variants.{Some};
-ghost use Rattle.words.specs.Bits.{bitsIn, bitsText, digitsOf};
+ghost use Rattle.words.specs.Bits.{bitsIn, bitsText, bitDigits};
 use crate::byte::Kind;
 use std::fmt;
 
@@ -15,7 +15,7 @@ pub struct Bits<'a> {
 impl<'a> Bits<'a> {
     // The text as bits, if it is one; `-` stands for none.
     pub fn of(text: &'a str) -> Option<Bits<'a>>
-        ensures { λ r. ⌜ mapped digitsOf r ≡ bitsIn (now (text .entry)) ⌝ }
+        ensures { λ r. ⌜ mapped bitDigits r ≡ bitsIn (now (text .entry)) ⌝ }
     {
         if text == "-" {
             return Some(Bits { digits: "" });
@@ -29,7 +29,7 @@ impl<'a> Bits<'a> {
 }
 
 pub impl fmt::Display for Bits<'_> as BitsDisplay {
-    ghost shown = { λ b. Some (bitsText (b .digits .now)) };
+    ghost shown = { λ b. Some (bitsText (bitDigits b)) };
 
     fn fmt<W: fmt::Write>(&self, f: &mut fmt::Formatter<W>) -> fmt::Result {
         if self.digits.is_empty() {

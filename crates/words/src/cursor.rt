@@ -2,8 +2,17 @@
 ghost use mathlib.Core.Path.{_≡_};
 ghost use lib.ListN.{drop};
 ghost use Rattle.std.specs.Options.{mapped};
-ghost use Rattle.words.specs.Words.{firstOf, words};
+ghost use Rattle.words.specs.Left.{left};
+ghost use Rattle.words.specs.Words.{firstOf, skipped, words};
 use crate::byte::Kind;
+
+// Has a line no words, or is it a remark.
+pub fn is_skipped(line: &[u8]) -> bool
+    ensures { λ r. ⌜ r ≡ skipped (words (now (line .entry))) ⌝ }
+{
+    let n = Kind::Blank.front(line);
+    n >= line.len() || line[n] == b'#'
+}
 
 // What is left of a line.
 #[derive(Clone, Copy)]
@@ -13,15 +22,15 @@ pub struct Words<'a> {
 
 impl<'a> Words<'a> {
     pub fn of(line: &'a str) -> Words<'a>
-        ensures { λ r. ⌜ now (r .rest) ≡ now (line .entry) ⌝ }
+        ensures { λ r. ⌜ left r ≡ words (now (line .entry)) ⌝ }
     {
         Words { rest: line }
     }
 
     // The next word, if there is one.
     pub fn next(&mut self) -> Option<&'a str>
-        ensures word { λ r. ⌜ mapped now r ≡ firstOf (words (now (now (self .entry) .rest))) ⌝ }
-        ensures rest { λ r. ⌜ words (now (now (self .exit) .rest)) ≡ drop 1 (words (now (now (self .entry) .rest))) ⌝ }
+        ensures word { λ r. ⌜ mapped now r ≡ firstOf (left (now (self .entry))) ⌝ }
+        ensures rest { λ r. ⌜ left (now (self .exit)) ≡ drop 1 (left (now (self .entry))) ⌝ }
     {
         let line = self.rest;
         let (_, line) = line.split_at(Kind::Blank.front(line.as_bytes()));

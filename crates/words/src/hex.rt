@@ -6,7 +6,7 @@ ghost use Prim.Native.Nat.{ℕ, _<_, _≤_};
 ghost use lib.ListN.{drop, length, take};
 ghost use Rattle.std.specs.declared.option.Option.the-variants.{None, Some};
 ghost use Rattle.std.specs.Results.{Cases};
-ghost use Rattle.words.specs.Hex.{areBytes, bytesOf, hexFault, hexOf, hexValue};
+ghost use Rattle.words.specs.Hex.{areBytes, bytesOf, hexDigits, hexFault, hexOf, hexValue};
 use crate::byte::Kind;
 use std::fmt;
 
@@ -57,8 +57,8 @@ fn fault(digits: &[u8]) -> Option<NotHex>
 impl<'a> Hex<'a> {
     // The text as bytes, or what is wrong with it. What is written of any bytes, at most 4,096, is read as these bytes.
     pub fn of(text: &'a str) -> Result<Hex<'a>, NotHex>
-        ensures reads { λ r. ⌜ Cases r (λ h. (hexFault (now (text .entry)) ≡ None) × (now (h .digits) ≡ now (text .entry))) (λ e. hexFault (now (text .entry)) ≡ Some e) ⌝ }
-        ensures again { λ r. ⌜ ((bs : List ℕ) → areBytes bs ≡ true → length bs ≤ 4096 → now (text .entry) ≡ hexOf bs → Cases r (λ h. bytesOf (now (h .digits)) ≡ bs) (λ _. ⊥)) ⌝ }
+        ensures reads { λ r. ⌜ Cases r (λ h. (hexFault (now (text .entry)) ≡ None) × (hexDigits h ≡ now (text .entry))) (λ e. hexFault (now (text .entry)) ≡ Some e) ⌝ }
+        ensures again { λ r. ⌜ ((bs : List ℕ) → areBytes bs ≡ true → length bs ≤ 4096 → now (text .entry) ≡ hexOf bs → Cases r (λ h. bytesOf (hexDigits h) ≡ bs) (λ _. ⊥)) ⌝ }
     {
         match fault(text.as_bytes()) {
             None => Ok(Hex { digits: text }),
@@ -68,7 +68,7 @@ impl<'a> Hex<'a> {
 
     // Puts the bytes over the front of a block.
     pub fn put(&self, block: &mut [u8; 4096])
-        ensures { λ _. ⌜ now (block .exit) ≡ take 4096 (bytesOf (now (now (self .entry) .digits))) ++ drop (length (bytesOf (now (now (self .entry) .digits)))) (now (block .entry)) ⌝ }
+        ensures { λ _. ⌜ now (block .exit) ≡ take 4096 (bytesOf (hexDigits (now (self .entry)))) ++ drop (length (bytesOf (hexDigits (now (self .entry))))) (now (block .entry)) ⌝ }
     {
         let digits = self.digits.as_bytes();
         for i in 0..(digits.len() / 2).min(4096) {
@@ -78,7 +78,7 @@ impl<'a> Hex<'a> {
 }
 
 pub impl fmt::Display for Hex<'_> as HexDisplay {
-    ghost shown = { λ h. Some (h .digits .now) };
+    ghost shown = { λ h. Some (hexDigits h) };
 
     fn fmt<W: fmt::Write>(&self, f: &mut fmt::Formatter<W>) -> fmt::Result {
         f.write_str(self.digits)

@@ -1,0 +1,181 @@
+-- How a line is read. Assumes nothing.
+use mathlib.Core.Bool.{Bool, true, false, cond}
+use mathlib.Core.List.{List, [], _∷_}
+use Prim.Native.Nat.{ℕ}
+use lib.Dec.{ltb}
+use lib.ListN.{length, drop}
+use Rattle.std.specs.Options.{okOr}
+use Rattle.std.specs.declared.option.Option.{Option}
+use Rattle.std.specs.declared.option.Option.the-variants.{Some, None}
+use Rattle.std.specs.declared.result.Result.{Result}
+use Rattle.std.specs.declared.result.Result.the-variants.{Ok, Err}
+use Rattle.words.specs.Bits.{bitsIn}
+use Rattle.words.specs.Hex.{hexFault}
+use Rattle.words.specs.Numbers.{numberOf}
+use Rattle.words.specs.Words.{firstOf, skipped, words}
+use Rattle.words.specs.declared.hex.NotHex.{NotHex}
+use Rattle.words.specs.declared.hex.NotHex.the-variants as hex
+use Rattle.words.specs.declared.number.Number.{Number}
+use Rattle.words.specs.declared.number.Number.the-variants as number
+use Rattle.lines.specs.Commands.{commandOf}
+use Rattle.lines.specs.Lines.{Asked, Said, Heard, Format, Write, Clear, Hold, Release, Would, Copy, New, Drop, Read, ReadHold, Free, Sync, Stream, Take, Show, Listing, Plain, Power, Cut, Skipped, Understood, Misread}
+use Rattle.lines.specs.declared.command.Command.{Command}
+use Rattle.lines.specs.declared.command.Command.the-variants as command
+use Rattle.lines.specs.declared.line.Why.{Why}
+use Rattle.lines.specs.declared.line.Why.the-variants.{TooFew, TooMany, NoNumber, TooLarge, ManyDigits, NoDigit, OddDigits, NoBits, Nested}
+use Rattle.lines.specs.declared.line.Trouble.{Trouble}
+use Rattle.lines.specs.declared.line.Trouble.the-variants.{TooLong, NotText, NoCommand, Form}
+
+-- One step and then another: what is wrong first, from the left, is what is told.
+abbrev pub then : {A B E : Type 0} → Result A E → (A → Result B E) → Result B E
+then (Ok a) f = f a
+then (Err e) f = Err e
+
+abbrev pub mappedOk : {A B E : Type 0} → (A → B) → Result A E → Result B E
+mappedOk f (Ok a) = Ok (f a)
+mappedOk f (Err e) = Err e
+
+-- A number that names something, or counts. The largest of 64 bits stands for all that pass it.
+abbrev pub capped : Number → Result ℕ Why
+capped (number.Fits n) = Ok n
+capped number.TooLarge = Ok 18446744073709551615
+capped number.NoNumber = Err NoNumber
+
+abbrev pub exactly : Number → Result ℕ Why
+exactly (number.Fits n) = Ok n
+exactly number.TooLarge = Err TooLarge
+exactly number.NoNumber = Err NoNumber
+
+-- What the first of the words gives.
+abbrev pub wordIn : List (List ℕ) → Result (List ℕ) Why
+wordIn ws = okOr (firstOf ws) TooFew
+
+abbrev pub numberIn : List (List ℕ) → Result ℕ Why
+numberIn ws = then (wordIn ws) (λ w. capped (numberOf w))
+
+abbrev pub exactIn : List (List ℕ) → Result ℕ Why
+exactIn ws = then (wordIn ws) (λ w. exactly (numberOf w))
+
+abbrev pub fine : List ℕ → Option NotHex → Result (Option (List ℕ)) Why
+fine ds None = Ok (Some ds)
+fine ds (Some hex.TooMany) = Err ManyDigits
+fine ds (Some hex.NoDigit) = Err NoDigit
+fine ds (Some hex.Odd) = Err OddDigits
+
+-- Bytes may be left out.
+abbrev pub hexAt : Option (List ℕ) → Result (Option (List ℕ)) Why
+hexAt None = Ok None
+hexAt (Some w) = fine w (hexFault w)
+
+abbrev pub hexIn : List (List ℕ) → Result (Option (List ℕ)) Why
+hexIn ws = hexAt (firstOf ws)
+
+abbrev pub someBits : Option (List ℕ) → Result (List ℕ) Why
+someBits (Some ds) = Ok ds
+someBits None = Err NoBits
+
+-- Bits that are left out are none.
+abbrev pub bitsOf : List (List ℕ) → Result (List ℕ) Why
+bitsOf [] = Ok []
+bitsOf (w ∷ ws) = someBits (bitsIn w)
+
+abbrev pub endIn : List (List ℕ) → Result (Unit {0}) Why
+endIn [] = Ok tt
+endIn (w ∷ ws) = Err TooMany
+
+abbrev pub oneIn : List (List ℕ) → Result ℕ Why
+oneIn ws = then (numberIn ws) (λ n. then (endIn (drop 1 ws)) (λ _. Ok n))
+
+abbrev pub twoIn : List (List ℕ) → Result (ℕ × ℕ) Why
+twoIn ws = then (numberIn ws) (λ n. then (oneIn (drop 1 ws)) (λ m. Ok (n, m)))
+
+-- The bits of a stop are the longest part of any line: there are never 2,097,152 sectors that wait.
+abbrev pub longest : ℕ
+longest = 2097152
+
+abbrev pub isPower : Command → Bool
+isPower command.Format = false
+isPower command.Write = false
+isPower command.Clear = false
+isPower command.Hold = false
+isPower command.Release = false
+isPower command.Would = false
+isPower command.Copy = false
+isPower command.New = false
+isPower command.Drop = false
+isPower command.Read = false
+isPower command.ReadHold = false
+isPower command.Free = false
+isPower command.Sync = false
+isPower command.Stream = false
+isPower command.Take = false
+isPower command.Power = true
+isPower command.Show = false
+isPower command.Listing = false
+
+-- What the words behind a command ask for.
+abbrev pub callIn : Command → List (List ℕ) → Result Asked Why
+callIn command.Format ws = then (numberIn ws) (λ n. then (exactIn (drop 1 ws)) (λ v. then (endIn (drop 1 (drop 1 ws))) (λ _. Ok (Format n v))))
+callIn command.Write ws =
+    then (numberIn ws) (λ d. then (numberIn (drop 1 ws)) (λ s. then (hexIn (drop 1 (drop 1 ws))) (λ ds. then (endIn (drop 1 (drop 1 (drop 1 ws)))) (λ _. Ok (Write d s ds)))))
+callIn command.Clear ws = then (twoIn ws) (λ p. Ok (Clear (p .0) (p .1)))
+callIn command.Hold ws = then (oneIn ws) (λ d. Ok (Hold d))
+callIn command.Release ws = then (oneIn ws) (λ h. Ok (Release h))
+callIn command.Would ws = then (oneIn ws) (λ h. Ok (Would h))
+callIn command.Copy ws = then (oneIn ws) (λ h. Ok (Copy h))
+callIn command.New ws = then (endIn ws) (λ _. Ok New)
+callIn command.Drop ws = then (oneIn ws) (λ d. Ok (Drop d))
+callIn command.Read ws = then (twoIn ws) (λ p. Ok (Read (p .0) (p .1)))
+callIn command.ReadHold ws = then (twoIn ws) (λ p. Ok (ReadHold (p .0) (p .1)))
+callIn command.Free ws = then (endIn ws) (λ _. Ok Free)
+callIn command.Sync ws = then (endIn ws) (λ _. Ok Sync)
+callIn command.Stream ws =
+    then (numberIn ws) (λ a. then (numberIn (drop 1 ws)) (λ b. then (wordIn (drop 1 (drop 1 ws))) (λ f. then (endIn (drop 1 (drop 1 (drop 1 ws)))) (λ _. Ok (Stream a b f)))))
+callIn command.Take ws = then (numberIn ws) (λ d. then (wordIn (drop 1 ws)) (λ f. then (endIn (drop 1 (drop 1 ws))) (λ _. Ok (Take d f))))
+callIn command.Power ws = Err Nested
+callIn command.Show ws = then (endIn ws) (λ _. Ok Show)
+callIn command.Listing ws = then (endIn ws) (λ _. Ok Listing)
+
+abbrev pub formed : {A : Type 0} → Command → Result A Why → Result A Trouble
+formed c (Ok a) = Ok a
+formed c (Err w) = Err (Form c w)
+
+-- A call, its command first; as the line that a stop cuts short.
+abbrev pub commanded : Option Command → List (List ℕ) → Result Asked Trouble
+commanded None ws = Err NoCommand
+commanded (Some c) ws = formed c (callIn c ws)
+
+abbrev pub callOf : List (List ℕ) → Result Asked Trouble
+callOf ws = then (formed command.Power (wordIn ws)) (λ w. commanded (commandOf w) (drop 1 ws))
+
+-- Behind the bits nothing, or a number and a call.
+abbrev pub stopAt : Option (List ℕ) → List ℕ → List (List ℕ) → Result Said Trouble
+stopAt None bits ws = Ok (Power bits)
+stopAt (Some w) bits ws = then (formed command.Power (numberIn ws)) (λ k. then (callOf (drop 1 ws)) (λ a. Ok (Cut bits k a)))
+
+abbrev pub stopIn : List ℕ → List (List ℕ) → Result Said Trouble
+stopIn bits ws = stopAt (firstOf ws) bits ws
+
+abbrev pub powerIn : List (List ℕ) → Result Said Trouble
+powerIn ws = then (formed command.Power (bitsOf ws)) (λ bits. stopIn bits (drop 1 ws))
+
+-- A line whose command is c.
+abbrev pub saidAs : Command → List (List ℕ) → Result Said Trouble
+saidAs c ws = cond (isPower c) (powerIn ws) (then (formed c (callIn c ws)) (λ a. Ok (Plain a)))
+
+abbrev pub saidBy : Option Command → List (List ℕ) → Result Said Trouble
+saidBy None ws = Err NoCommand
+saidBy (Some c) ws = saidAs c ws
+
+abbrev pub outcome : Result Said Trouble → Heard
+outcome (Ok l) = Understood l
+outcome (Err t) = Misread t
+
+-- What the words of a line that is not skipped say.
+abbrev pub heardBy : Option (List ℕ) → List (List ℕ) → Heard
+heardBy None ws = Skipped
+heardBy (Some w) ws = outcome (saidBy (commandOf w) (drop 1 ws))
+
+-- A line; t says whether it is text, which is UTF-8. One that is longer than any line has to be is not looked at.
+abbrev pub reading : Bool → List ℕ → Heard
+reading t bs = cond (ltb longest (length bs)) (Misread TooLong) (cond (skipped (words bs)) Skipped (cond t (heardBy (firstOf (words bs)) (words bs)) (Misread NotText)))
