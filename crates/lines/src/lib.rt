@@ -1,4 +1,4 @@
-// A line of text to what it asks for, and an answer to text.
+// What a line asks for, and the text of it; what is answered, and the text of that.
 pub mod command;
 pub mod line;
-pub mod read;
+pub mod write;
