@@ -11,7 +11,7 @@ use Rattle.lines.specs.declared.line.Line.{Line}
 use Rattle.lines.specs.declared.line.Line.the-variants as lines
 use Rattle.lines.specs.declared.line.Reading.{Reading}
 use Rattle.lines.specs.declared.line.Reading.the-variants as readings
-use Rattle.lines.specs.declared.line.Trouble.{Trouble}
+use Rattle.commands.specs.declared.trouble.Trouble.{Trouble}
 
 -- The same calls; bytes are the text of their hexadecimal digits, and a file's name is its bytes.
 pub data Asked : Type 0 where

@@ -5,9 +5,9 @@ use Rattle.std.specs.Written.{decimal}
 use Rattle.std.specs.declared.option.Option.the-variants.{Some, None}
 use Rattle.words.specs.Bits.{bitsText}
 use Rattle.words.specs.Words.{spaced}
-use Rattle.lines.specs.Commands.{wordOf}
+use Rattle.commands.specs.Commands.{wordOf}
 use Rattle.lines.specs.Lines.{Asked, Said, Format, Write, Clear, Hold, Release, Would, Copy, New, Drop, Read, ReadHold, Free, Sync, Stream, Take, Show, Listing, Plain, Power, Cut}
-use Rattle.lines.specs.declared.command.Command.the-variants as command
+use Rattle.commands.specs.declared.command.Command.the-variants as command
 
 -- The words of a call.
 abbrev pub wordsOf : Asked → List (List ℕ)

@@ -1,4 +1,3 @@
-// What a line asks for, and the text of it; what is answered, and the text of that.
-pub mod command;
+// What a line asks for, and the text of it.
 pub mod line;
 pub mod write;

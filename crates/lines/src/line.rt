@@ -1,5 +1,5 @@
 // What a line asks for. All of it refers to the line's text.
-use crate::command::Command;
+use commands::trouble::Trouble;
 use words::bits::Bits;
 use words::hex::Hex;
 
@@ -34,34 +34,6 @@ pub enum Line<'a> {
     Plain(Call<'a>),
     Power { bits: Bits<'a> },
     Cut { bits: Bits<'a>, after: u64, call: Call<'a> },
-}
-
-// What is wrong with the words behind a command.
-#[derive(Clone, Copy)]
-pub enum Why {
-    TooFew,
-    TooMany,
-    // A word that should be a decimal number.
-    NoNumber,
-    // A number that passes 64 bits where any below that is meant.
-    TooLarge,
-    // More digits than a block's bytes have.
-    ManyDigits,
-    NoDigit,
-    OddDigits,
-    // A text that has something else than 0 and 1.
-    NoBits,
-    // A stop that should cut short a stop.
-    Nested,
-}
-
-// Why a line is not understood.
-#[derive(Clone, Copy)]
-pub enum Trouble {
-    TooLong,
-    NotText,
-    NoCommand,
-    Form { command: Command, why: Why },
 }
 
 // What reading a line gives.

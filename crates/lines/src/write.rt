@@ -1,23 +1,15 @@
 // A line written out.
 ghost use Rattle.std.specs.declared.option.Option.the-variants.{Some};
 ghost use Rattle.words.specs.Words.{spaced};
-ghost use Rattle.lines.specs.Commands.{wordOf};
 ghost use Rattle.lines.specs.Lines.{asked, said};
 ghost use Rattle.lines.specs.Texts.{wordsOf, written};
-use crate::command::Command;
+use commands::command::Command;
+use commands::command::CommandDisplay;
 use crate::line::Call;
 use crate::line::Line;
 use std::fmt;
 use words::bits::BitsDisplay;
 use words::hex::HexDisplay;
-
-pub impl fmt::Display for Command as CommandDisplay {
-    ghost shown = { λ c. Some (wordOf c) };
-
-    fn fmt<W: fmt::Write>(&self, f: &mut fmt::Formatter<W>) -> fmt::Result {
-        f.write_str(self.word())
-    }
-}
 
 pub impl fmt::Display for Call<'_> as CallDisplay {
     ghost shown = { λ c. Some (spaced (wordsOf (asked c))) };

@@ -17,14 +17,14 @@ use Rattle.words.specs.declared.hex.NotHex.{NotHex}
 use Rattle.words.specs.declared.hex.NotHex.the-variants as hex
 use Rattle.words.specs.declared.number.Number.{Number}
 use Rattle.words.specs.declared.number.Number.the-variants as number
-use Rattle.lines.specs.Commands.{commandOf}
+use Rattle.commands.specs.Commands.{commandOf}
 use Rattle.lines.specs.Lines.{Asked, Said, Heard, Format, Write, Clear, Hold, Release, Would, Copy, New, Drop, Read, ReadHold, Free, Sync, Stream, Take, Show, Listing, Plain, Power, Cut, Skipped, Understood, Misread}
-use Rattle.lines.specs.declared.command.Command.{Command}
-use Rattle.lines.specs.declared.command.Command.the-variants as command
-use Rattle.lines.specs.declared.line.Why.{Why}
-use Rattle.lines.specs.declared.line.Why.the-variants.{TooFew, TooMany, NoNumber, TooLarge, ManyDigits, NoDigit, OddDigits, NoBits, Nested}
-use Rattle.lines.specs.declared.line.Trouble.{Trouble}
-use Rattle.lines.specs.declared.line.Trouble.the-variants.{TooLong, NotText, NoCommand, Form}
+use Rattle.commands.specs.declared.command.Command.{Command}
+use Rattle.commands.specs.declared.command.Command.the-variants as command
+use Rattle.commands.specs.declared.trouble.Why.{Why}
+use Rattle.commands.specs.declared.trouble.Why.the-variants.{TooFew, TooMany, NoNumber, TooLarge, ManyDigits, NoDigit, OddDigits, NoBits, Nested}
+use Rattle.commands.specs.declared.trouble.Trouble.{Trouble}
+use Rattle.commands.specs.declared.trouble.Trouble.the-variants.{TooLong, NotText, NoCommand, Form}
 
 -- One step and then another: what is wrong first, from the left, is what is told.
 abbrev pub then : {A B E : Type 0} → Result A E → (A → Result B E) → Result B E

@@ -4,4 +4,5 @@ pub mod Digits
 pub mod Hex
 pub mod Left
 pub mod Numbers
+pub mod Shown
 pub mod Words

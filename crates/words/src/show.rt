@@ -2,10 +2,12 @@
 ghost use mathlib.Core.Path.{_≡_};
 ghost use mathlib.Core.List.{[], _∷_};
 ghost use Prim.Native.Nat.{_<_, _≤_};
+ghost use lib.Dec.{eqb};
 ghost use lib.ListN.{length, take};
 ghost use Rattle.std.specs.declared.option.Option.the-variants.{Some};
 ghost use Rattle.std.specs.Written.{Prints};
 ghost use Rattle.words.specs.Hex.{hexChar, hexOf, trimmed};
+ghost use Rattle.words.specs.Shown.{shownBytes};
 use std::fmt;
 
 // The digit of a number below 16.
@@ -29,14 +31,21 @@ pub struct Shown<'a> {
 impl<'a> Shown<'a> {
     // Up to the last that is not zero.
     pub fn of(bytes: &'a [u8]) -> Shown<'a>
-        ensures { λ r. ⌜ now (r .bytes) ≡ trimmed (now (bytes .entry)) ⌝ }
+        ensures { λ r. ⌜ shownBytes r ≡ trimmed (now (bytes .entry)) ⌝ }
     {
         Shown {
             bytes: &bytes[0..trimmed_len(bytes)],
         }
     }
+
+    pub fn is_empty(&self) -> bool
+        ensures { λ r. ⌜ r ≡ eqb (length (shownBytes (now (self .entry)))) 0 ⌝ }
+    {
+        self.bytes.is_empty()
+    }
 }
 
+// How many bytes stand before the zeros at the end.
 fn trimmed_len(bytes: &[u8]) -> usize
     ensures is { λ r. ⌜ take r (now (bytes .entry)) ≡ trimmed (now (bytes .entry)) ⌝ }
     ensures within { λ r. ⌜ r ≤ length (now (bytes .entry)) ⌝ }
@@ -49,7 +58,7 @@ fn trimmed_len(bytes: &[u8]) -> usize
 }
 
 pub impl fmt::Display for Shown<'_> as ShownDisplay {
-    ghost shown = { λ x. Some (hexOf (x .bytes .now)) };
+    ghost shown = { λ x. Some (hexOf (shownBytes x)) };
 
     fn fmt<W: fmt::Write>(&self, f: &mut fmt::Formatter<W>) -> fmt::Result {
         for b in self.bytes {

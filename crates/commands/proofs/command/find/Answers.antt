@@ -1,10 +1,10 @@
 use mathlib.Core.Path.{_≡_, refl, sym, _∙_}
 use Rattle.std.proofs.shelf.Lists.{at-drop-all}
 use Rattle.std.proofs.shelf.Tests.{both-ways}
-use Rattle.lines.specs.Commands.{commandIn}
-use Rattle.lines.specs.declared.command.Command.the-variants.{Format}
-use Rattle.lines.proofs.Names.{found-here, found-later}
-use Rattle.lines.proofs.command.find.Needs as need
+use Rattle.commands.specs.Commands.{commandIn}
+use Rattle.commands.specs.declared.command.Command.the-variants.{Format}
+use Rattle.commands.proofs.Names.{found-here, found-later}
+use Rattle.commands.proofs.command.find.Needs as need
 
 pub returns-then-eq : need.returns-then-eq
 returns-then-eq c =

@@ -1,6 +1,9 @@
 // The commands that a line can begin with.
 ghost use mathlib.Core.Path.{_≡_};
-ghost use Rattle.lines.specs.Commands.{commandIn, commandOf, usageOf, wordOf};
+ghost use Rattle.std.specs.declared.option.Option.the-variants.{Some};
+ghost use Rattle.commands.specs.Commands.{commandIn, commandOf, usageOf, wordOf};
+
+use std::fmt;
 
 #[derive(Clone, Copy)]
 pub enum Command {
@@ -114,5 +117,13 @@ impl Command {
             Command::Show => "show",
             Command::Listing => "list",
         }
+    }
+}
+
+pub impl fmt::Display for Command as CommandDisplay {
+    ghost shown = { λ c. Some (wordOf c) };
+
+    fn fmt<W: fmt::Write>(&self, f: &mut fmt::Formatter<W>) -> fmt::Result {
+        f.write_str(self.word())
     }
 }

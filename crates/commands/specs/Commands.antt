@@ -6,8 +6,8 @@ use lib.Chars.{codes}
 use Rattle.std.specs.shelf.Text.{sameBytes}
 use Rattle.std.specs.declared.option.Option.{Option}
 use Rattle.std.specs.declared.option.Option.the-variants.{Some, None}
-use Rattle.lines.specs.declared.command.Command.{Command}
-use Rattle.lines.specs.declared.command.Command.the-variants.{Format, Write, Clear, Hold, Release, Would, Copy, New, Drop, Read, ReadHold, Free, Sync, Stream, Take, Power, Show, Listing}
+use Rattle.commands.specs.declared.command.Command.{Command}
+use Rattle.commands.specs.declared.command.Command.the-variants.{Format, Write, Clear, Hold, Release, Would, Copy, New, Drop, Read, ReadHold, Free, Sync, Stream, Take, Power, Show, Listing}
 
 abbrev pub wordOf : Command → List ℕ
 wordOf Format = codes "format"

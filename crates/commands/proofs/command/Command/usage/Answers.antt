@@ -1,5 +1,5 @@
 use mathlib.Core.Path.{refl}
-use Rattle.lines.proofs.command.Command.usage.Needs as need
+use Rattle.commands.proofs.command.Command.usage.Needs as need
 
 pub returns-in-Write : need.returns-in-Write
 returns-in-Write c = rw (c .in-Write .is) refl

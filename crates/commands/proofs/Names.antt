@@ -10,8 +10,8 @@ use Rattle.std.specs.declared.option.Option.the-variants.{Some}
 use Rattle.std.proofs.shelf.Equals.{sameBytes-decides}
 use Rattle.std.proofs.shelf.Lists.{at-drop-more}
 use Rattle.std.proofs.shelf.Tests.{cases-bool, cond-true, cond-false}
-use Rattle.lines.specs.declared.command.Command.{Command}
-use Rattle.lines.specs.Commands.{wordOf, commandIn}
+use Rattle.commands.specs.declared.command.Command.{Command}
+use Rattle.commands.specs.Commands.{wordOf, commandIn}
 
 module _ (w : List ℕ) (cs : List Command) (i : ℕ) (d : Command) (inside : i < length cs) where
   step : commandIn w (drop i cs) ≡ cond (sameBytes (wordOf (getD cs i d)) w) (Some (getD cs i d)) (commandIn w (drop (i + 1) cs))
