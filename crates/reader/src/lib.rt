@@ -11,7 +11,9 @@ ghost use Rattle.std.specs.declared.result.Result.the-variants.{Ok};
 ghost use Rattle.words.specs.Bits.{bitDigits};
 ghost use Rattle.words.specs.Hex.{hexDigits};
 ghost use Rattle.commands.specs.Commands.{commandOf};
-ghost use Rattle.lines.specs.Lines.{asked, heard, said};
+ghost use Rattle.lines.specs.Lines.{asked, heard, said, Said, Understood};
+ghost use Rattle.lines.specs.Texts.{written};
+ghost use Rattle.reader.specs.Proper.{Proper};
 ghost use Rattle.commands.specs.declared.command.Command.the-variants.{Format, Stream, Take, Write};
 ghost use Rattle.reader.specs.Reads.{bitsOf, callIn, callOf, commanded, endIn, exactIn, formed, heardBy, hexIn, mappedOk, numberIn, oneIn, powerIn, reading, saidBy, stopIn, then, twoIn, wordIn};
 use commands::command::Command;
@@ -284,8 +286,8 @@ fn text<'a>(line: &'a str) -> Reading<'a>
 // The bits of a stop are the longest part of any line: there are never so many sectors that wait.
 pub const LONGEST: usize = 2097152;
 
-// Reads a line, which comes without its end.
-pub fn read<'a>(line: &'a [u8]) -> Reading<'a>
+// What a line says.
+fn understood<'a>(line: &'a [u8]) -> Reading<'a>
     ensures { λ r. ⌜ ((t : Bool) → Decides t (Utf8 (now (line .entry))) → heard r ≡ reading t (now (line .entry))) ⌝ }
 {
     if line.len() > LONGEST {
@@ -298,4 +300,13 @@ pub fn read<'a>(line: &'a [u8]) -> Reading<'a>
         Ok(line) => text(line),
         Err(_) => Reading::Misread(Trouble::NotText),
     }
+}
+
+// Reads a line, which comes without its end. Whatever it is, it is skipped, understood, or told what is wrong with it; and a line that
+// was written out from its value is read as that value.
+pub fn read<'a>(line: &'a [u8]) -> Reading<'a>
+    ensures reads { λ r. ⌜ ((t : Bool) → Decides t (Utf8 (now (line .entry))) → heard r ≡ reading t (now (line .entry))) ⌝ }
+    ensures again { λ r. ⌜ ((l : Said) → Proper l → now (line .entry) ≡ written l → heard r ≡ Understood l) ⌝ }
+{
+    understood(line)
 }

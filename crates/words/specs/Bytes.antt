@@ -13,12 +13,21 @@ blank b = eqb b 32 || (eqb b 9 || eqb b 13)
 abbrev pub between : ℕ → ℕ → ℕ → Bool
 between low high b = leb low b && leb b high
 
+abbrev pub isSolid : ℕ → Bool
+isSolid b = not (blank b)
+
+abbrev pub isHex : ℕ → Bool
+isHex b = between 48 57 b || (between 97 102 b || between 65 70 b)
+
+abbrev pub isBit : ℕ → Bool
+isBit b = between 48 49 b
+
 abbrev pub isKind : Kind → ℕ → Bool
 isKind Blank b = blank b
-isKind Solid b = not (blank b)
+isKind Solid b = isSolid b
 isKind Decimal b = between 48 57 b
-isKind Hexadecimal b = between 48 57 b || (between 97 102 b || between 65 70 b)
-isKind Bit b = between 48 49 b
+isKind Hexadecimal b = isHex b
+isKind Bit b = isBit b
 
 abbrev pub every : (ℕ → Bool) → List ℕ → Bool
 every p [] = true

@@ -1,0 +1,3 @@
+mod Callings
+mod Solids
+mod Spoken
