@@ -52,7 +52,11 @@ pub impl fmt::Display for Answer<'_> as AnswerDisplay {
                     write!(f, "ok {bytes}")
                 }
             }
-            Answer::Refused { refusal, about } => write!(f, "error {}: {refusal}{about}", refusal.number()),
+            Answer::Refused { refusal, about } => write!(
+                f,
+                "error {}: {refusal}{about}",
+                refusal.number()
+            ),
             Answer::Misread(trouble) => write!(f, "error: {trouble}"),
             Answer::NotYet => f.write_str("error: not yet"),
         }

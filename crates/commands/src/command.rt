@@ -2,7 +2,6 @@
 ghost use mathlib.Core.Path.{_≡_};
 ghost use Rattle.std.specs.declared.option.Option.the-variants.{Some};
 ghost use Rattle.commands.specs.Commands.{commandIn, commandOf, usageOf, wordOf};
-
 use std::fmt;
 
 #[derive(Clone, Copy)]

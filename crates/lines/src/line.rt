@@ -7,22 +7,55 @@ use words::hex::Hex;
 // these and passes 64 bits stands as the largest of 64 bits, which names none either.
 #[derive(Clone, Copy)]
 pub enum Call<'a> {
-    Format { blocks: u64, number: u64 },
+    Format {
+        blocks: u64,
+        number: u64,
+    },
     // Without bytes a block of zeros is written.
-    Write { disk: u64, slot: u64, hex: Option<Hex<'a>> },
-    Clear { disk: u64, slot: u64 },
-    Hold { disk: u64 },
-    Release { hold: u64 },
-    Would { hold: u64 },
-    Copy { hold: u64 },
+    Write {
+        disk: u64,
+        slot: u64,
+        hex: Option<Hex<'a>>,
+    },
+    Clear {
+        disk: u64,
+        slot: u64,
+    },
+    Hold {
+        disk: u64,
+    },
+    Release {
+        hold: u64,
+    },
+    Would {
+        hold: u64,
+    },
+    Copy {
+        hold: u64,
+    },
     New,
-    Drop { disk: u64 },
-    Read { disk: u64, slot: u64 },
-    ReadHold { hold: u64, slot: u64 },
+    Drop {
+        disk: u64,
+    },
+    Read {
+        disk: u64,
+        slot: u64,
+    },
+    ReadHold {
+        hold: u64,
+        slot: u64,
+    },
     Free,
     Sync,
-    Stream { older: u64, newer: u64, file: &'a str },
-    Take { disk: u64, file: &'a str },
+    Stream {
+        older: u64,
+        newer: u64,
+        file: &'a str,
+    },
+    Take {
+        disk: u64,
+        file: &'a str,
+    },
     Show,
     Listing,
 }
@@ -32,8 +65,14 @@ pub enum Call<'a> {
 #[derive(Clone, Copy)]
 pub enum Line<'a> {
     Plain(Call<'a>),
-    Power { bits: Bits<'a> },
-    Cut { bits: Bits<'a>, after: u64, call: Call<'a> },
+    Power {
+        bits: Bits<'a>,
+    },
+    Cut {
+        bits: Bits<'a>,
+        after: u64,
+        call: Call<'a>,
+    },
 }
 
 // What reading a line gives.

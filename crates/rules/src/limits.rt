@@ -7,6 +7,7 @@ pub const FIRST_BLOCK: u32 = 514;
 
 // A volume of fewer blocks would have hardly any for slots; one of more would not have a table of 64 KiB.
 const LEAST_BLOCKS: u64 = 1024;
+
 const MOST_BLOCKS: u64 = 65536;
 
 // How many blocks a volume has, if it may have so many.
