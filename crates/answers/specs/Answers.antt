@@ -4,8 +4,8 @@ use Prim.Native.Nat.{ℕ}
 use lib.Chars.{codes}
 use Rattle.std.specs.Written.{decimal}
 use Rattle.rules.specs.Refusals.{numberOf, wordsOf}
-use Rattle.words.specs.Hex.{hexOf}
-use Rattle.words.specs.Shown.{shownBytes}
+use Rattle.digits.specs.Hex.{hexOf}
+use Rattle.digits.specs.Shown.{shownBytes}
 use Rattle.commands.specs.Troubles.{troubleText}
 use Rattle.answers.specs.declared.About.{About}
 use Rattle.answers.specs.declared.About.the-variants.{Nothing, Blocks}

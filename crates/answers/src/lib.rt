@@ -3,11 +3,11 @@ ghost use Rattle.std.specs.declared.option.Option.the-variants.{Some};
 ghost use Rattle.answers.specs.Answers.{aboutText, answerText};
 use commands::trouble::Trouble;
 use commands::trouble::TroubleDisplay;
+use digits::show::Shown;
+use digits::show::ShownDisplay;
 use rules::refusal::Refusal;
 use rules::refusal::RefusalDisplay;
 use std::fmt;
-use words::show::Shown;
-use words::show::ShownDisplay;
 
 // What a refusal is about.
 #[derive(Clone, Copy)]

@@ -3,8 +3,8 @@ use mathlib.Core.List.{List}
 use Prim.Native.Nat.{ℕ}
 use Rattle.std.specs.Options.{mapped}
 use Rattle.std.specs.declared.option.Option.{Option}
-use Rattle.words.specs.Bits.{bitDigits}
-use Rattle.words.specs.Hex.{hexDigits}
+use Rattle.digits.specs.Bits.{bitDigits}
+use Rattle.digits.specs.Hex.{hexDigits}
 use Rattle.lines.specs.declared.line.Call.{Call}
 use Rattle.lines.specs.declared.line.Call.the-variants as code
 use Rattle.lines.specs.declared.line.Line.{Line}

@@ -1,7 +1,7 @@
 // What a line asks for. All of it refers to the line's text.
 use commands::trouble::Trouble;
-use words::bits::Bits;
-use words::hex::Hex;
+use digits::bits::Bits;
+use digits::hex::Hex;
 
 // A call. Numbers are as they were written: which disks, holds and slots there are, is the volume's to say. A number that names one of
 // these and passes 64 bits stands as the largest of 64 bits, which names none either.

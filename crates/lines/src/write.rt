@@ -7,9 +7,9 @@ use crate::line::Call;
 use crate::line::Line;
 use commands::command::Command;
 use commands::command::CommandDisplay;
+use digits::bits::BitsDisplay;
+use digits::hex::HexDisplay;
 use std::fmt;
-use words::bits::BitsDisplay;
-use words::hex::HexDisplay;
 
 pub impl fmt::Display for Call<'_> as CallDisplay {
     ghost shown = { λ c. Some (spaced (wordsOf (asked c))) };

@@ -15,9 +15,9 @@ use Rattle.std.proofs.shelf.Text.{utf8-append, utf8-from-ascii, utf8-nil}
 use Rattle.std.proofs.shelf.Tests.{and-parts, ltb-true}
 use Rattle.std.proofs.shelf.Ways.{tells}
 use Rattle.words.proofs.Decimals.{decimal-word, every-weaker, word-from}
-use Rattle.words.specs.Bits.{bitsText}
+use Rattle.digits.specs.Bits.{bitsText}
 use Rattle.words.specs.Bytes.{every, isBit, isHex, isSolid, isWord}
-use Rattle.words.specs.Hex.{hexFault}
+use Rattle.digits.specs.Hex.{hexFault}
 use Rattle.words.specs.Words.{spaced}
 use Rattle.lines.specs.Lines.{Asked, Said, Format, Write, Clear, Hold, Release, Would, Copy, New, Drop, Read, ReadHold, Free, Sync, Stream, Take, Show, Listing, Plain, Power, Cut}
 use Rattle.lines.specs.Texts.{lineWords, wordsOf}

@@ -13,7 +13,7 @@ use Rattle.std.proofs.shelf.Tests.{cond-true, cond-false, le-ltb}
 use Rattle.std.proofs.shelf.Ways.{tells}
 use Rattle.words.proofs.Decimals.{number-again}
 use Rattle.words.proofs.Spaced.{words-spaced}
-use Rattle.words.specs.Bits.{bitsIn, bitsText}
+use Rattle.digits.specs.Bits.{bitsIn, bitsText}
 use Rattle.words.specs.Bytes.{every, isBit}
 use Rattle.words.specs.Words.{firstOf, skipped, words}
 use Rattle.lines.specs.Lines.{Asked, Said, Plain, Power, Cut, Heard, Understood}

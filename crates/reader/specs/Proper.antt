@@ -7,7 +7,7 @@ use lib.ListN.{length}
 use Rattle.std.specs.Text.{Utf8}
 use Rattle.std.specs.declared.option.Option.the-variants.{Some, None}
 use Rattle.words.specs.Bytes.{every, isBit, isWord}
-use Rattle.words.specs.Hex.{hexFault}
+use Rattle.digits.specs.Hex.{hexFault}
 use Rattle.lines.specs.Lines.{Asked, Said, Format, Write, Clear, Hold, Release, Would, Copy, New, Drop, Read, ReadHold, Free, Sync, Stream, Take, Show, Listing, Plain, Power, Cut}
 use Rattle.lines.specs.Texts.{written}
 use Rattle.reader.specs.Reads.{longest}

@@ -9,12 +9,12 @@ use Rattle.std.specs.declared.option.Option.{Option}
 use Rattle.std.specs.declared.option.Option.the-variants.{Some, None}
 use Rattle.std.specs.declared.result.Result.{Result}
 use Rattle.std.specs.declared.result.Result.the-variants.{Ok, Err}
-use Rattle.words.specs.Bits.{bitsIn}
-use Rattle.words.specs.Hex.{hexFault}
+use Rattle.digits.specs.Bits.{bitsIn}
+use Rattle.digits.specs.Hex.{hexFault}
 use Rattle.words.specs.Numbers.{numberOf}
 use Rattle.words.specs.Words.{firstOf, skipped, words}
-use Rattle.words.specs.declared.hex.NotHex.{NotHex}
-use Rattle.words.specs.declared.hex.NotHex.the-variants as hex
+use Rattle.digits.specs.declared.hex.NotHex.{NotHex}
+use Rattle.digits.specs.declared.hex.NotHex.the-variants as hex
 use Rattle.words.specs.declared.number.Number.{Number}
 use Rattle.words.specs.declared.number.Number.the-variants as number
 use Rattle.commands.specs.Commands.{commandOf}

@@ -8,8 +8,8 @@ ghost use Rattle.words.specs.Left.{left};
 ghost use Rattle.words.specs.Words.{firstOf, words};
 ghost use Rattle.std.specs.Options.{mapped};
 ghost use Rattle.std.specs.declared.result.Result.the-variants.{Ok};
-ghost use Rattle.words.specs.Bits.{bitDigits};
-ghost use Rattle.words.specs.Hex.{hexDigits};
+ghost use Rattle.digits.specs.Bits.{bitDigits};
+ghost use Rattle.digits.specs.Hex.{hexDigits};
 ghost use Rattle.commands.specs.Commands.{commandOf};
 ghost use Rattle.lines.specs.Lines.{asked, heard, said, Said, Understood};
 ghost use Rattle.lines.specs.Texts.{written};
@@ -19,15 +19,15 @@ ghost use Rattle.reader.specs.Reads.{bitsOf, callIn, callOf, commanded, endIn,
 use commands::command::Command;
 use commands::trouble::Trouble;
 use commands::trouble::Why;
+use digits::bits::Bits;
+use digits::hex::Hex;
+use digits::hex::NotHex;
 use lines::line::Call;
 use lines::line::Line;
 use lines::line::Reading;
 use std::str::from_utf8;
-use words::bits::Bits;
 use words::cursor::Words;
 use words::cursor::is_skipped;
-use words::hex::Hex;
-use words::hex::NotHex;
 use words::number::Number;
 
 fn word<'a>(args: &mut Words<'a>) -> Result<&'a str, Why>

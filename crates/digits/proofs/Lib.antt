@@ -1,0 +1,4 @@
+mod Again
+mod Pairs
+mod Written
+mod Zeros
