@@ -7,7 +7,7 @@ use Rattle.std.specs.Written.{decimal}
 use Rattle.std.specs.declared.option.Option.the-variants.{Some, None}
 use Rattle.std.specs.declared.result.Result.the-variants.{Ok, Err}
 use Rattle.words.proofs.Decimals.{number-again}
-use Rattle.words.specs.Words.{remark}
+use Rattle.words.specs.Words.{marked}
 use Rattle.commands.specs.Commands.{commandOf, wordOf}
 use Rattle.commands.specs.declared.command.Command.{Command}
 use Rattle.commands.specs.declared.command.Command.the-variants as command
@@ -137,7 +137,7 @@ call-again (Take d f) p = rw (number-again d (p .0)) refl
 call-again Show p = refl
 call-again Listing p = refl
 
-pub no-remark : (c : Command) → remark (wordOf c) ≡ false
+pub no-remark : (c : Command) → marked (wordOf c) ≡ false
 no-remark command.Format = refl
 no-remark command.Write = refl
 no-remark command.Clear = refl

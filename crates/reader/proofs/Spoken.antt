@@ -15,7 +15,7 @@ use Rattle.words.proofs.Decimals.{number-again}
 use Rattle.words.proofs.Spaced.{words-spaced}
 use Rattle.digits.specs.Bits.{bitsIn, bitsText}
 use Rattle.words.specs.Bytes.{every, isBit}
-use Rattle.words.specs.Words.{firstOf, skipped, words}
+use Rattle.words.specs.Words.{firstOf, remark, words}
 use Rattle.lines.specs.Lines.{Asked, Said, Plain, Power, Cut, Heard, Understood}
 use Rattle.lines.specs.Texts.{lineWords, wordsOf, written}
 use Rattle.reader.specs.Proper.{Proper, ProperCall, ProperSaid}
@@ -40,10 +40,10 @@ spoken (Plain a) p = rw (words-are a, named-again (headOf a), no-power a, call-a
 spoken (Power b) p = rw (bits-again b p) refl
 spoken (Cut b k a) p = rw (bits-again b (p .0), number-again k (p .1)) (ap (λ r. outcome (then r (λ x. Ok (Cut b k x)))) (cut-again a (p .2)))
 
-not-skipped : (l : Said) → skipped (lineWords l) ≡ false
-not-skipped (Plain a) = rw (words-are a) (no-remark (headOf a))
-not-skipped (Power b) = refl
-not-skipped (Cut b k a) = refl
+not-remark : (l : Said) → remark (lineWords l) ≡ false
+not-remark (Plain a) = rw (words-are a) (no-remark (headOf a))
+not-remark (Power b) = refl
+not-remark (Cut b k a) = refl
 
 module _ (l : Said) (p : Proper l) where
   pub written-text : Utf8 (written l)
@@ -51,5 +51,4 @@ module _ (l : Said) (p : Proper l) where
 
   pub written-read : reading true (written l) ≡ Understood l
   written-read =
-      cond-false _ _ _ (le-ltb longest (length (written l)) (p .1))
-      ∙ rw (words-again l (p .0)) (cond-false _ _ _ (not-skipped l) ∙ spoken l (p .0))
+      rw (words-again l (p .0)) (cond-false _ _ _ (not-remark l) ∙ cond-false _ _ _ (le-ltb longest (length (written l)) (p .1)) ∙ spoken l (p .0))

@@ -12,7 +12,7 @@ use Rattle.std.specs.declared.result.Result.the-variants.{Ok, Err}
 use Rattle.digits.specs.Bits.{bitsIn}
 use Rattle.digits.specs.Hex.{hexFault}
 use Rattle.words.specs.Numbers.{numberOf}
-use Rattle.words.specs.Words.{firstOf, skipped, words}
+use Rattle.words.specs.Words.{firstOf, remark, words}
 use Rattle.digits.specs.declared.hex.NotHex.{NotHex}
 use Rattle.digits.specs.declared.hex.NotHex.the-variants as hex
 use Rattle.words.specs.declared.number.Number.{Number}
@@ -171,11 +171,12 @@ abbrev pub outcome : Result Said Trouble → Heard
 outcome (Ok l) = Understood l
 outcome (Err t) = Misread t
 
--- What the words of a line that is not skipped say.
+-- What the words of a line say that is no remark; nothing where there are none.
 abbrev pub heardBy : Option (List ℕ) → List (List ℕ) → Heard
 heardBy None ws = Skipped
 heardBy (Some w) ws = outcome (saidBy (commandOf w) (drop 1 ws))
 
--- A line; t says whether it is text, which is UTF-8. One that is longer than any line has to be is not looked at.
+-- A line; t says whether it is text, which is UTF-8. A remark is skipped, whatever it is; then one that is longer than any line has to
+-- be is not looked at.
 abbrev pub reading : Bool → List ℕ → Heard
-reading t bs = cond (ltb longest (length bs)) (Misread TooLong) (cond (skipped (words bs)) Skipped (cond t (heardBy (firstOf (words bs)) (words bs)) (Misread NotText)))
+reading t bs = cond (remark (words bs)) Skipped (cond (ltb longest (length bs)) (Misread TooLong) (cond t (heardBy (firstOf (words bs)) (words bs)) (Misread NotText)))

@@ -27,7 +27,7 @@ use lines::line::Line;
 use lines::line::Reading;
 use std::str::from_utf8;
 use words::cursor::Words;
-use words::cursor::is_skipped;
+use words::cursor::is_remark;
 use words::number::Number;
 
 fn word<'a>(args: &mut Words<'a>) -> Result<&'a str, Why>
@@ -269,7 +269,7 @@ fn named_line<'a>(name: &str, args: Words<'a>) -> Result<Line<'a>, Trouble>
     }
 }
 
-// What a line of text says that is not skipped.
+// What a line of text says that is no remark.
 fn text<'a>(line: &'a str) -> Reading<'a>
     ensures { λ r. ⌜ heard r ≡ heardBy (firstOf (words (now (line .entry)))) (words (now (line .entry))) ⌝ }
 {
@@ -290,11 +290,11 @@ pub const LONGEST: usize = 2097152;
 fn understood<'a>(line: &'a [u8]) -> Reading<'a>
     ensures { λ r. ⌜ ((t : Bool) → Decides t (Utf8 (now (line .entry))) → heard r ≡ reading t (now (line .entry))) ⌝ }
 {
+    if is_remark(line) {
+        return Reading::Skipped;
+    }
     if line.len() > LONGEST {
         return Reading::Misread(Trouble::TooLong);
-    }
-    if is_skipped(line) {
-        return Reading::Skipped;
     }
     match from_utf8(line) {
         Ok(line) => text(line),

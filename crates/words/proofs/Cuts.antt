@@ -1,12 +1,12 @@
 -- Where a line is cut into words. Assumes nothing.
 use mathlib.Core.Path.{_≡_, refl, sym, ap, subst, _∙_}
 use mathlib.Core.Logic.{⊎-elim}
-use mathlib.Core.Bool.{Bool, true, false, cond, not, _||_}
+use mathlib.Core.Bool.{Bool, true, false, cond, not}
 use mathlib.Core.List.{List, [], _∷_, _++_, append-nil, append-assoc}
 use Prim.Native.Nat.{ℕ, zero, suc, _+_, _-_, _≤_, _<_}
 use native.Mathlib.Omega.{arith}
 use native.Mathlib.Numerals.{one-add}
-use lib.Dec.{eqb, leb}
+use lib.Dec.{eqb}
 use native.Mathlib.Nat.{add-zero}
 use lib.ListN.{length, getD, take, drop, length-take, length-drop}
 use lib.Seq.{getD-drop}
@@ -14,12 +14,12 @@ use Rattle.std.specs.Text.{Utf8}
 use Rattle.std.specs.Words.{Boundary}
 use Rattle.std.specs.shelf.Lists.{leading}
 use Rattle.std.proofs.shelf.Sums.{leading-le-length}
-use Rattle.std.proofs.shelf.Tests.{cases-lt, cond-both, le-leb, lt-leb, or-left}
+use Rattle.std.proofs.shelf.Tests.{cases-lt, cond-both}
 use Rattle.std.proofs.shelf.Text.{boundary-start, boundary-end, boundary-after-ascii, boundary-before-ascii}
 use Rattle.std.proofs.shelf.Ways.{tells}
 use Rattle.words.specs.declared.byte.Kind.the-variants.{Blank, Solid}
 use Rattle.words.specs.Bytes.{blank, isKind}
-use Rattle.words.specs.Words.{before, skipped, wordsAfter, words}
+use Rattle.words.specs.Words.{before, remark, wordsAfter, words}
 use Rattle.words.proofs.Fronts.{front-passes, front-ends}
 
 blank-ascii : (b : ℕ) → blank b ≡ true → b < 128
@@ -101,34 +101,15 @@ module _ {bs left word rest : List ℕ} (cut : Cut bs left word rest) where
       full [] k = absurd (omega arith)
       full (b ∷ w) k = refl
 
-skipped-by : (b : ℕ) (w bs : List ℕ) → skipped (wordsAfter (b ∷ w) bs) ≡ eqb b 35
-skipped-by b w [] = refl
-skipped-by b w (c ∷ bs) = cond-both (blank c) (before (b ∷ w) (wordsAfter [] bs)) (wordsAfter ((b ∷ w) ++ c ∷ []) bs) (λ ws. skipped ws ≡ eqb b 35) (λ _. refl) (λ _. skipped-by b (w ++ c ∷ []) bs)
+remark-by : (b : ℕ) (w bs : List ℕ) → remark (wordsAfter (b ∷ w) bs) ≡ eqb b 35
+remark-by b w [] = refl
+remark-by b w (c ∷ bs) = cond-both (blank c) (before (b ∷ w) (wordsAfter [] bs)) (wordsAfter ((b ∷ w) ++ c ∷ []) bs) (λ ws. remark ws ≡ eqb b 35) (λ _. refl) (λ _. remark-by b (w ++ c ∷ []) bs)
 
-skips : List ℕ → ℕ → Bool
-skips bs n = leb (length bs) n || eqb (getD bs n 0) 35
-
-skipped-walk : (bs : List ℕ) → skipped (words bs) ≡ skips bs (leading (isKind Blank) bs)
-unfolding skips
-skipped-walk [] = refl
-skipped-walk (b ∷ bs) = step (blank b) refl (skipped-walk bs)
+-- what stands behind the blanks tells whether a line is a remark
+pub remark-is : (bs : List ℕ) → remark (words bs) ≡ eqb (getD bs (leading (isKind Blank) bs) 0) 35
+remark-is [] = refl
+remark-is (b ∷ bs) = step (blank b) refl (remark-is bs)
   where
-    more : (m n : ℕ) → leb (suc m) (suc n) ≡ leb m n
-    more m n = grind (arith, tells)
-
-    none : (m : ℕ) → leb (suc m) 0 ≡ false
-    none m = grind (arith, tells)
-
-    step : (t : Bool) → blank b ≡ t → skipped (words bs) ≡ skips bs (leading (isKind Blank) bs) → skipped (words (b ∷ bs)) ≡ skips (b ∷ bs) (leading (isKind Blank) (b ∷ bs))
-    step true e again = rw (e, one-add, more) again
-    step false e again = rw (e, none (length bs)) (skipped-by b [] bs)
-
--- what stands behind the blanks tells whether a line is skipped
-module _ (bs : List ℕ) (n : ℕ) (e : n ≡ leading (isKind Blank) bs) where
-  pub skipped-end : length bs ≤ n → skipped (words bs) ≡ true
-  unfolding skips
-  skipped-end h = skipped-walk bs ∙ rw (← e) (or-left _ _ (le-leb (length bs) n h))
-
-  pub skipped-mark : n < length bs → skipped (words bs) ≡ eqb (getD bs n 0) 35
-  unfolding skips
-  skipped-mark h = skipped-walk bs ∙ rw (← e, lt-leb (length bs) n h) refl
+    step : (t : Bool) → blank b ≡ t → remark (words bs) ≡ eqb (getD bs (leading (isKind Blank) bs) 0) 35 → remark (words (b ∷ bs)) ≡ eqb (getD (b ∷ bs) (leading (isKind Blank) (b ∷ bs)) 0) 35
+    step true e again = rw (e, one-add) again
+    step false e again = rw e (remark-by b [] bs)

@@ -24,15 +24,14 @@ abbrev pub firstOf : {X : Type 0} → List X → Option X
 firstOf [] = None
 firstOf (x ∷ xs) = Some x
 
--- A remark begins with `#`.
-abbrev pub remark : List ℕ → Bool
-remark [] = false
-remark (b ∷ bs) = eqb b 35
+abbrev pub marked : List ℕ → Bool
+marked [] = false
+marked (b ∷ bs) = eqb b 35
 
--- A line without words is skipped, and so is a remark.
-abbrev pub skipped : List (List ℕ) → Bool
-skipped [] = true
-skipped (w ∷ ws) = remark w
+-- A line whose first word begins with `#` is a remark.
+abbrev pub remark : List (List ℕ) → Bool
+remark [] = false
+remark (w ∷ ws) = marked w
 
 -- Words, written with one blank between each and the next.
 abbrev pub spaced : List (List ℕ) → List ℕ

@@ -3,15 +3,15 @@ ghost use mathlib.Core.Path.{_≡_};
 ghost use lib.ListN.{drop};
 ghost use Rattle.std.specs.Options.{mapped};
 ghost use Rattle.words.specs.Left.{left};
-ghost use Rattle.words.specs.Words.{firstOf, skipped, words};
+ghost use Rattle.words.specs.Words.{firstOf, remark, words};
 use crate::byte::Kind;
 
-// Has a line no words, or is it a remark.
-pub fn is_skipped(line: &[u8]) -> bool
-    ensures { λ r. ⌜ r ≡ skipped (words (now (line .entry))) ⌝ }
+// Does the first word of a line begin with `#`.
+pub fn is_remark(line: &[u8]) -> bool
+    ensures { λ r. ⌜ r ≡ remark (words (now (line .entry))) ⌝ }
 {
     let n = Kind::Blank.front(line);
-    n >= line.len() || line[n] == b'#'
+    n < line.len() && line[n] == b'#'
 }
 
 // What is left of a line.
