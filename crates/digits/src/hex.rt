@@ -55,10 +55,11 @@ fn fault(digits: &[u8]) -> Option<NotHex>
 }
 
 impl<'a> Hex<'a> {
-    // The text as bytes, or what is wrong with it. What is written of any bytes, at most 4,096, is read as these bytes.
+    // The text as bytes, or what is wrong with it. What is written of any bytes says these bytes, and is read so if they fit a block.
     pub fn of(text: &'a str) -> Result<Hex<'a>, NotHex>
         ensures reads { λ r. ⌜ Cases r (λ h. (hexFault (now (text .entry)) ≡ None) × (hexDigits h ≡ now (text .entry))) (λ e. hexFault (now (text .entry)) ≡ Some e) ⌝ }
         ensures again { λ r. ⌜ ((bs : List ℕ) → areBytes bs ≡ true → length bs ≤ 4096 → now (text .entry) ≡ hexOf bs → Cases r (λ h. bytesOf (hexDigits h) ≡ bs) (λ _. ⊥)) ⌝ }
+        ensures law { λ _. ⌜ ((bs : List ℕ) → areBytes bs ≡ true → bytesOf (hexOf bs) ≡ bs) ⌝ }
     {
         match fault(text.as_bytes()) {
             None => Ok(Hex { digits: text }),

@@ -1,3 +1,5 @@
 mod Callings
+mod Gained
+mod Heeded
+mod Reread
 mod Solids
-mod Spoken

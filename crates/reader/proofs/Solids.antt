@@ -15,6 +15,7 @@ use Rattle.std.proofs.shelf.Text.{utf8-append, utf8-from-ascii, utf8-nil}
 use Rattle.std.proofs.shelf.Tests.{and-parts, ltb-true}
 use Rattle.std.proofs.shelf.Ways.{tells}
 use Rattle.words.proofs.Decimals.{decimal-word, every-weaker, word-from}
+use Rattle.words.proofs.Parts.{Solid}
 use Rattle.digits.specs.Bits.{bitsText}
 use Rattle.words.specs.Bytes.{every, isBit, isHex, isSolid, isWord}
 use Rattle.digits.specs.Hex.{hexFault}
@@ -22,11 +23,6 @@ use Rattle.words.specs.Words.{spaced}
 use Rattle.lines.specs.Lines.{Asked, Said, Format, Write, Clear, Hold, Release, Would, Copy, New, Drop, Read, ReadHold, Free, Sync, Stream, Take, Show, Listing, Plain, Power, Cut}
 use Rattle.lines.specs.Texts.{lineWords, wordsOf}
 use Rattle.reader.specs.Proper.{Number, File, Bytes, ProperCall, ProperSaid}
-
--- a word, and text
-pub record Solid (w : List ℕ) : Type 0 where
-  pub one : isWord w ≡ true
-  pub text : Utf8 w
 
 abbrev low : ℕ → Bool
 low b = ltb b 128

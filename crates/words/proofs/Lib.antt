@@ -1,5 +1,6 @@
 mod Cuts
 pub mod Decimals
 mod Fronts
+pub mod Parts
 pub mod Spaced
 mod Values
