@@ -6,7 +6,8 @@ ghost use lib.ListN.{length, take};
 ghost use Rattle.std.specs.Of.Vec.{vec-items, vec-len};
 ghost use Rattle.std.specs.Vec.{made};
 ghost use Rattle.std.specs.shelf.Lists.{leading};
-ghost use Rattle.input.specs.Pieces.{inside, lineIn, passed, whole};
+ghost use Rattle.input.specs.Pieces.{inside, lineIn, passed};
+ghost use Rattle.input.specs.Steps.{afterAll, nextAfter};
 use crate::buffer::LineBuffer;
 use reader::LONGEST;
 use std::alloc::AllocError;
@@ -17,11 +18,19 @@ use std::io::BufRead;
 // One byte more than the longest line shows that a line is too long.
 const MOST: usize = LONGEST + 1;
 
-// What was taken of a chunk of the input: how many bytes, and whether the line ended there.
+// What comes after a chunk of the input: more of the line; the line is whole; or there is none.
+#[derive(Clone, Copy)]
+pub enum Next {
+    More,
+    Line,
+    End,
+}
+
+// How many bytes of a chunk are done with, and what comes after it.
 #[derive(Clone, Copy)]
 struct Piece {
     used: usize,
-    ended: bool,
+    next: Next,
 }
 
 // How many bytes stand before the end of a line.
@@ -35,6 +44,20 @@ fn line_len(chunk: &[u8]) -> usize
         }
     }
     chunk.len()
+}
+
+// What comes after a chunk of n bytes that has no end of a line, where so many bytes of the line were held before. The input is at its
+// end where a chunk is empty, and the last line needs no end.
+fn after_all(held: usize, n: usize) -> Next
+    ensures { λ r. ⌜ r ≡ afterAll held n ⌝ }
+{
+    if n > 0 {
+        Next::More
+    } else if held > 0 {
+        Next::Line
+    } else {
+        Next::End
+    }
 }
 
 impl LineBuffer {
@@ -58,40 +81,38 @@ impl LineBuffer {
     fn add(&mut self, chunk: &[u8]) -> Piece
         ensures bytes { λ _. ⌜ vec-items (now (self .exit) .bytes) ≡ take 2097153 (vec-items (now (self .entry) .bytes) ++ lineIn (now (chunk .entry))) ⌝ }
         ensures used { λ r. ⌜ r .used ≡ passed (now (chunk .entry)) ⌝ }
-        ensures ended { λ r. ⌜ r .ended ≡ whole (now (chunk .entry)) ⌝ }
+        ensures next { λ r. ⌜ r .next ≡ nextAfter (vec-items (now (self .entry) .bytes)) (now (chunk .entry)) ⌝ }
     {
+        let held = self.bytes.len();
         let n = line_len(chunk);
         self.keep(&chunk[0..n]);
         if n < chunk.len() {
             Piece {
                 used: n + 1,
-                ended: true,
+                next: Next::Line,
             }
         } else {
             Piece {
                 used: n,
-                ended: false,
+                next: after_all(held, n),
             }
         }
     }
 
-    // Reads the next line, without its end; answers false where the input has no more. The last line needs no end.
+    // Reads the next line, without its end; answers false where the input has no more.
     pub fn next<R: BufRead>(&mut self, input: &mut R) -> io::Result<bool>
         ensures { λ _. ⌜ vec-len (now (self .exit) .bytes) ≤ 2097153 ⌝ }
     {
         self.bytes.clear();
-        let mut some = false;
         for _ in 0..u64::MAX {
             let piece = self.add(input.fill_buf()?);
             input.consume(piece.used);
-            if piece.ended {
-                return Ok(true);
+            match piece.next {
+                Next::More => {}
+                Next::Line => return Ok(true),
+                Next::End => return Ok(false),
             }
-            if piece.used == 0 {
-                break;
-            }
-            some = true;
         }
-        Ok(some)
+        Ok(false)
     }
 }
