@@ -25,7 +25,8 @@ use Rattle.commands.specs.declared.command.Command.the-variants as command
 use Rattle.commands.specs.declared.trouble.Why.{Why}
 use Rattle.lines.specs.Lines.{Asked, Format, Write, Clear, Hold, Release, Would, Copy, New, Drop, Read, ReadHold, Free, Sync, Stream, Take, Show, Listing}
 use Rattle.reader.specs.Proper.{Number, File, Bytes, ProperCall}
-use Rattle.reader.specs.Reads.{then, capped, exactly, wordIn, numberIn, exactIn, fine, hexAt, hexIn, endIn, oneIn, twoIn, callIn}
+use Rattle.reader.specs.Args.{then, capped, exactly, wordIn, numberIn, exactIn, fine, hexAt, hexIn, endIn, oneIn, twoIn}
+use Rattle.reader.specs.Reads.{callIn}
 
 -- an answer is not a refusal
 pub not-err : {A E X : Type 0} {e : E} {a : A} → _≡_ {A = Result A E} (Err e) (Ok a) → X

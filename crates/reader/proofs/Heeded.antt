@@ -22,7 +22,8 @@ use Rattle.commands.specs.declared.trouble.Why.{Why}
 use Rattle.commands.specs.declared.trouble.Trouble.{Trouble}
 use Rattle.lines.specs.Lines.{Asked, Said, Plain, Power, Cut, Heard, Skipped, Understood, Misread}
 use Rattle.reader.specs.Proper.{ProperCall, ProperSaid}
-use Rattle.reader.specs.Reads.{then, formed, numberIn, someBits, bitsOf, callIn, commanded, callOf, stopAt, stopIn, powerIn, isPower, saidAs, saidBy, outcome, heardBy}
+use Rattle.reader.specs.Args.{then, numberIn, someBits, bitsOf}
+use Rattle.reader.specs.Reads.{formed, callIn, commanded, callOf, stopAt, stopIn, powerIn, isPower, saidAs, saidBy, outcome, heardBy}
 use Rattle.reader.proofs.Gained.{not-err, same-ok, by-then, number-in, fewer, gained}
 
 by-formed : {A X : Type 0} {a : A} (c : Command) (r : Result A Why) → formed c r ≡ Ok a → (r ≡ Ok a → X) → X

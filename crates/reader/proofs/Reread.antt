@@ -19,7 +19,8 @@ use Rattle.words.specs.Words.{firstOf, remark, words}
 use Rattle.lines.specs.Lines.{Asked, Said, Plain, Power, Cut, Heard, Understood}
 use Rattle.lines.specs.Texts.{lineWords, wordsOf, written}
 use Rattle.reader.specs.Proper.{Proper, ProperCall, ProperSaid}
-use Rattle.reader.specs.Reads.{callOf, commanded, formed, heardBy, longest, outcome, reading, then}
+use Rattle.reader.specs.Args.{then}
+use Rattle.reader.specs.Reads.{callOf, commanded, formed, heardBy, longest, outcome, reading}
 use Rattle.reader.proofs.Callings.{headOf, argsOf, words-are, no-power, named-again, call-again, no-remark}
 use Rattle.reader.proofs.Solids.{line-solid, all-words, spaced-text}
 

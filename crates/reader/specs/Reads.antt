@@ -1,93 +1,23 @@
 -- How a line is read. Assumes nothing.
 use mathlib.Core.Bool.{Bool, true, false, cond}
-use mathlib.Core.List.{List, [], _∷_}
+use mathlib.Core.List.{List}
 use Prim.Native.Nat.{ℕ}
 use lib.Dec.{ltb}
 use lib.ListN.{length, drop}
-use Rattle.std.specs.Options.{okOr}
 use Rattle.std.specs.declared.option.Option.{Option}
 use Rattle.std.specs.declared.option.Option.the-variants.{Some, None}
 use Rattle.std.specs.declared.result.Result.{Result}
 use Rattle.std.specs.declared.result.Result.the-variants.{Ok, Err}
-use Rattle.digits.specs.Bits.{bitsIn}
-use Rattle.digits.specs.Hex.{hexFault}
-use Rattle.words.specs.Numbers.{numberOf}
 use Rattle.words.specs.Words.{firstOf, remark, words}
-use Rattle.digits.specs.declared.hex.NotHex.{NotHex}
-use Rattle.digits.specs.declared.hex.NotHex.the-variants as hex
-use Rattle.words.specs.declared.number.Number.{Number}
-use Rattle.words.specs.declared.number.Number.the-variants as number
 use Rattle.commands.specs.Commands.{commandOf}
-use Rattle.lines.specs.Lines.{Asked, Said, Heard, Format, Write, Clear, Hold, Release, Would, Copy, New, Drop, Read, ReadHold, Free, Sync, Stream, Take, Show, Listing, Plain, Power, Cut, Skipped, Understood, Misread}
 use Rattle.commands.specs.declared.command.Command.{Command}
 use Rattle.commands.specs.declared.command.Command.the-variants as command
 use Rattle.commands.specs.declared.trouble.Why.{Why}
-use Rattle.commands.specs.declared.trouble.Why.the-variants.{TooFew, TooMany, NoNumber, TooLarge, ManyDigits, NoDigit, OddDigits, NoBits, Nested}
+use Rattle.commands.specs.declared.trouble.Why.the-variants.{Nested}
 use Rattle.commands.specs.declared.trouble.Trouble.{Trouble}
 use Rattle.commands.specs.declared.trouble.Trouble.the-variants.{TooLong, NotText, NoCommand, Form}
-
--- One step and then another: what is wrong first, from the left, is what is told.
-abbrev pub then : {A B E : Type 0} → Result A E → (A → Result B E) → Result B E
-then (Ok a) f = f a
-then (Err e) f = Err e
-
-abbrev pub mappedOk : {A B E : Type 0} → (A → B) → Result A E → Result B E
-mappedOk f (Ok a) = Ok (f a)
-mappedOk f (Err e) = Err e
-
--- A number that names something, or counts. The largest of 64 bits stands for all that pass it.
-abbrev pub capped : Number → Result ℕ Why
-capped (number.Fits n) = Ok n
-capped number.TooLarge = Ok 18446744073709551615
-capped number.NoNumber = Err NoNumber
-
-abbrev pub exactly : Number → Result ℕ Why
-exactly (number.Fits n) = Ok n
-exactly number.TooLarge = Err TooLarge
-exactly number.NoNumber = Err NoNumber
-
--- What the first of the words gives.
-abbrev pub wordIn : List (List ℕ) → Result (List ℕ) Why
-wordIn ws = okOr (firstOf ws) TooFew
-
-abbrev pub numberIn : List (List ℕ) → Result ℕ Why
-numberIn ws = then (wordIn ws) (λ w. capped (numberOf w))
-
-abbrev pub exactIn : List (List ℕ) → Result ℕ Why
-exactIn ws = then (wordIn ws) (λ w. exactly (numberOf w))
-
-abbrev pub fine : List ℕ → Option NotHex → Result (Option (List ℕ)) Why
-fine ds None = Ok (Some ds)
-fine ds (Some hex.TooMany) = Err ManyDigits
-fine ds (Some hex.NoDigit) = Err NoDigit
-fine ds (Some hex.Odd) = Err OddDigits
-
--- Bytes may be left out.
-abbrev pub hexAt : Option (List ℕ) → Result (Option (List ℕ)) Why
-hexAt None = Ok None
-hexAt (Some w) = fine w (hexFault w)
-
-abbrev pub hexIn : List (List ℕ) → Result (Option (List ℕ)) Why
-hexIn ws = hexAt (firstOf ws)
-
-abbrev pub someBits : Option (List ℕ) → Result (List ℕ) Why
-someBits (Some ds) = Ok ds
-someBits None = Err NoBits
-
--- Bits that are left out are none.
-abbrev pub bitsOf : List (List ℕ) → Result (List ℕ) Why
-bitsOf [] = Ok []
-bitsOf (w ∷ ws) = someBits (bitsIn w)
-
-abbrev pub endIn : List (List ℕ) → Result (Unit {0}) Why
-endIn [] = Ok tt
-endIn (w ∷ ws) = Err TooMany
-
-abbrev pub oneIn : List (List ℕ) → Result ℕ Why
-oneIn ws = then (numberIn ws) (λ n. then (endIn (drop 1 ws)) (λ _. Ok n))
-
-abbrev pub twoIn : List (List ℕ) → Result (ℕ × ℕ) Why
-twoIn ws = then (numberIn ws) (λ n. then (oneIn (drop 1 ws)) (λ m. Ok (n, m)))
+use Rattle.lines.specs.Lines.{Asked, Said, Heard, Format, Write, Clear, Hold, Release, Would, Copy, New, Drop, Read, ReadHold, Free, Sync, Stream, Take, Show, Listing, Plain, Power, Cut, Skipped, Understood, Misread}
+use Rattle.reader.specs.Args.{then, wordIn, numberIn, exactIn, hexIn, bitsOf, endIn, oneIn, twoIn}
 
 -- The bits of a stop are the longest part of any line: there are never 2,097,152 sectors that wait.
 abbrev pub longest : ℕ
@@ -136,6 +66,7 @@ callIn command.Power ws = Err Nested
 callIn command.Show ws = then (endIn ws) (λ _. Ok Show)
 callIn command.Listing ws = then (endIn ws) (λ _. Ok Listing)
 
+-- What is wrong is told with the command that it is wrong for.
 abbrev pub formed : {A : Type 0} → Command → Result A Why → Result A Trouble
 formed c (Ok a) = Ok a
 formed c (Err w) = Err (Form c w)
@@ -156,6 +87,7 @@ stopAt (Some w) bits ws = then (formed command.Power (numberIn ws)) (λ k. then 
 abbrev pub stopIn : List ℕ → List (List ℕ) → Result Said Trouble
 stopIn bits ws = stopAt (firstOf ws) bits ws
 
+-- The bits of a stop, and what is behind them.
 abbrev pub powerIn : List (List ℕ) → Result Said Trouble
 powerIn ws = then (formed command.Power (bitsOf ws)) (λ bits. stopIn bits (drop 1 ws))
 

@@ -5,7 +5,7 @@ ghost use Rattle.std.specs.Options.{mapped};
 ghost use Rattle.words.specs.Left.{left};
 ghost use Rattle.digits.specs.Bits.{bitDigits};
 ghost use Rattle.digits.specs.Hex.{hexDigits};
-ghost use Rattle.reader.specs.Reads.{bitsOf, endIn, exactIn, hexIn, mappedOk, numberIn, oneIn, twoIn, wordIn};
+ghost use Rattle.reader.specs.Args.{bitsOf, endIn, exactIn, hexIn, mappedOk, numberIn, oneIn, twoIn, wordIn};
 use commands::trouble::Why;
 use digits::bits::Bits;
 use digits::hex::Hex;
