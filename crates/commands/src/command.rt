@@ -4,6 +4,7 @@ ghost use Rattle.std.specs.declared.option.Option.the-variants.{Some};
 ghost use Rattle.commands.specs.Commands.{commandIn, commandOf, usageOf, wordOf};
 use std::fmt;
 
+// Each is named by one word.
 #[derive(Clone, Copy)]
 pub enum Command {
     Format,
@@ -23,6 +24,7 @@ pub enum Command {
     Take,
     Power,
     Show,
+    // The line `list`; `List` is what specs/ call a list.
     Listing,
 }
 
@@ -67,6 +69,7 @@ impl Command {
         find(word, &ALL)
     }
 
+    // The word that names it.
     pub fn word(self) -> &'static str
         ensures { λ r. ⌜ now r ≡ wordOf self ⌝ }
     {

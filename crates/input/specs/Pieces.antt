@@ -5,6 +5,11 @@ use Prim.Native.Nat.{ℕ, _+_}
 use lib.Dec.{eqb, ltb}
 use lib.ListN.{length, take}
 use Rattle.std.specs.shelf.Lists.{leading}
+use Rattle.reader.specs.Reads.{longest}
+
+-- How much is held of a line: one byte more than the longest has, which shows that it is too long.
+abbrev pub most : ℕ
+most = longest + 1
 
 -- A byte that does not end the line.
 abbrev pub inside : ℕ → Bool

@@ -6,7 +6,7 @@ ghost use lib.ListN.{length, take};
 ghost use Rattle.std.specs.Of.Vec.{vec-items, vec-len};
 ghost use Rattle.std.specs.Vec.{made};
 ghost use Rattle.std.specs.shelf.Lists.{leading};
-ghost use Rattle.input.specs.Pieces.{inside, lineIn, passed};
+ghost use Rattle.input.specs.Pieces.{inside, lineIn, most, passed};
 ghost use Rattle.input.specs.Steps.{afterAll, nextAfter};
 use crate::buffer::LineBuffer;
 use reader::LONGEST;
@@ -70,7 +70,7 @@ impl LineBuffer {
 
     // Puts bytes behind what is there, as far as there is room.
     fn keep(&mut self, part: &[u8])
-        ensures { λ _. ⌜ vec-items (now (self .exit) .bytes) ≡ take 2097153 (vec-items (now (self .entry) .bytes) ++ now (part .entry)) ⌝ }
+        ensures { λ _. ⌜ vec-items (now (self .exit) .bytes) ≡ take most (vec-items (now (self .entry) .bytes) ++ now (part .entry)) ⌝ }
     {
         let room = MOST - self.bytes.len();
         let n = part.len().min(room);
@@ -79,7 +79,7 @@ impl LineBuffer {
 
     // Takes what a chunk has of the line.
     fn add(&mut self, chunk: &[u8]) -> Piece
-        ensures bytes { λ _. ⌜ vec-items (now (self .exit) .bytes) ≡ take 2097153 (vec-items (now (self .entry) .bytes) ++ lineIn (now (chunk .entry))) ⌝ }
+        ensures bytes { λ _. ⌜ vec-items (now (self .exit) .bytes) ≡ take most (vec-items (now (self .entry) .bytes) ++ lineIn (now (chunk .entry))) ⌝ }
         ensures used { λ r. ⌜ r .used ≡ passed (now (chunk .entry)) ⌝ }
         ensures next { λ r. ⌜ r .next ≡ nextAfter (vec-items (now (self .entry) .bytes)) (now (chunk .entry)) ⌝ }
     {
@@ -101,7 +101,7 @@ impl LineBuffer {
 
     // Reads the next line, without its end; answers false where the input has no more.
     pub fn next<R: BufRead>(&mut self, input: &mut R) -> io::Result<bool>
-        ensures { λ _. ⌜ vec-len (now (self .exit) .bytes) ≤ 2097153 ⌝ }
+        ensures { λ _. ⌜ vec-len (now (self .exit) .bytes) ≤ most ⌝ }
     {
         self.bytes.clear();
         for _ in 0..u64::MAX {

@@ -33,9 +33,12 @@ abbrev pub formatAnswer : Option Formatted → ℕ → Answer
 formatAnswer (Some f) n = answer.Done
 formatAnswer None n = answer.Refused Missing (Blocks n)
 
+abbrev pub noVolume : Answer
+noVolume = answer.Refused NoVolume Nothing
+
 -- Until there is a volume, nothing but formatting is answered otherwise.
 abbrev pub up : Option Formatted → (Formatted → Answer) → Answer
-up None k = answer.Refused NoVolume Nothing
+up None k = noVolume
 up (Some f) k = k f
 
 -- All blocks that slots can show are free as yet.

@@ -6,7 +6,7 @@ ghost use Rattle.std.specs.Text.{Utf8};
 ghost use Rattle.std.specs.declared.option.Option.the-variants.{None};
 ghost use Rattle.lines.specs.Lines.{asked, said};
 ghost use Rattle.reader.specs.Reads.{reading};
-ghost use Rattle.rehearsal.specs.Playing.{afterCall, afterHeard, afterLine, answerToCall, answerToHeard, answerToLine, formatAnswer, formatted, freeAnswer, later, orElse};
+ghost use Rattle.rehearsal.specs.Playing.{afterCall, afterHeard, afterLine, answerToCall, answerToHeard, answerToLine, formatAnswer, formatted, freeAnswer, later, noVolume, orElse};
 use answers::About;
 use answers::Answer;
 use lines::line::Call;
@@ -29,6 +29,15 @@ pub struct Formatted {
 #[derive(Clone, Copy)]
 pub struct Rehearsal {
     device: Option<Formatted>,
+}
+
+fn no_volume() -> Answer<'static>
+    ensures { λ r. ⌜ r ≡ noVolume ⌝ }
+{
+    Answer::Refused {
+        refusal: Refusal::NoVolume,
+        about: About::Nothing,
+    }
 }
 
 impl Rehearsal {
@@ -80,10 +89,7 @@ impl Rehearsal {
     {
         match self.device {
             Some(device) => Answer::Value(u64::from(device.blocks.saturating_sub(FIRST_BLOCK))),
-            None => Answer::Refused {
-                refusal: Refusal::NoVolume,
-                about: About::Nothing,
-            },
+            None => no_volume(),
         }
     }
 
@@ -93,10 +99,7 @@ impl Rehearsal {
     {
         match self.device {
             Some(_) => Answer::NotYet,
-            None => Answer::Refused {
-                refusal: Refusal::NoVolume,
-                about: About::Nothing,
-            },
+            None => no_volume(),
         }
     }
 
