@@ -1,5 +1,5 @@
 -- What a rehearsal answers to a line, and what it is after it. Assumes nothing.
-use mathlib.Core.Bool.{Bool, true, cond}
+use mathlib.Core.Bool.{Bool, true, false, cond}
 use Prim.Native.Nat.{ℕ, _-_}
 use lib.Dec.{leb}
 use Rattle.std.specs.declared.option.Option.{Option}
@@ -106,3 +106,13 @@ abbrev pub afterHeard : Option Formatted → Heard → Option Formatted
 afterHeard s Skipped = s
 afterHeard s (Understood l) = afterLine s l
 afterHeard s (Misread t) = s
+
+-- Is an answer an error: a refusal, a line that is not understood, or one that is not played yet.
+abbrev pub isError : Option Answer → Bool
+isError None = false
+isError (Some answer.Done) = false
+isError (Some (answer.Value n)) = false
+isError (Some (answer.Bytes b)) = false
+isError (Some (answer.Refused r a)) = true
+isError (Some (answer.Misread t)) = true
+isError (Some answer.NotYet) = true

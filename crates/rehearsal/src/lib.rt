@@ -1,12 +1,12 @@
 // What `rehearse` does with a line: the same lines as on a real device, on a device in memory.
 ghost use mathlib.Core.Path.{_≡_};
-ghost use mathlib.Core.Bool.{Bool};
+ghost use mathlib.Core.Bool.{Bool, true};
 ghost use Rattle.std.specs.Orderings.{Decides};
 ghost use Rattle.std.specs.Text.{Utf8};
 ghost use Rattle.std.specs.declared.option.Option.the-variants.{None};
-ghost use Rattle.lines.specs.Lines.{asked, said};
+ghost use Rattle.lines.specs.Lines.{asked, heard, said};
 ghost use Rattle.reader.specs.Reads.{reading};
-ghost use Rattle.rehearsal.specs.Playing.{afterCall, afterHeard, afterLine, answerToCall, answerToHeard, answerToLine, formatAnswer, formatted, freeAnswer, later, noVolume, orElse};
+ghost use Rattle.rehearsal.specs.Playing.{afterCall, afterHeard, afterLine, answerToCall, answerToHeard, answerToLine, formatAnswer, formatted, freeAnswer, isError, later, noVolume, orElse};
 use answers::About;
 use answers::Answer;
 use lines::line::Call;
@@ -124,15 +124,24 @@ impl Rehearsal {
         }
     }
 
-    // Plays a line, which comes without its end, and answers it, unless it is to be skipped.
-    pub fn answer(&mut self, line: &[u8]) -> Option<Answer<'static>>
-        ensures answer { λ r. ⌜ ((t : Bool) → Decides t (Utf8 (now (line .entry))) → r ≡ answerToHeard (now (self .entry) .device) (reading t (now (line .entry)))) ⌝ }
-        ensures device { λ _. ⌜ ((t : Bool) → Decides t (Utf8 (now (line .entry))) → now (self .exit) .device ≡ afterHeard (now (self .entry) .device) (reading t (now (line .entry)))) ⌝ }
+    // The answer to what was read.
+    fn respond(&mut self, reading: Reading<'_>) -> Option<Answer<'static>>
+        ensures answer { λ r. ⌜ r ≡ answerToHeard (now (self .entry) .device) (heard (reading .entry)) ⌝ }
+        ensures device { λ _. ⌜ now (self .exit) .device ≡ afterHeard (now (self .entry) .device) (heard (reading .entry)) ⌝ }
     {
-        match read(line) {
+        match reading {
             Reading::Skipped => None,
             Reading::Understood(line) => Some(self.play(line)),
             Reading::Misread(trouble) => Some(Answer::Misread(trouble)),
         }
+    }
+
+    // Plays a line, which comes without its end, and answers it, unless it is to be skipped. Where the answer is an error, nothing changes.
+    pub fn answer(&mut self, line: &[u8]) -> Option<Answer<'static>>
+        ensures answer { λ r. ⌜ ((t : Bool) → Decides t (Utf8 (now (line .entry))) → r ≡ answerToHeard (now (self .entry) .device) (reading t (now (line .entry)))) ⌝ }
+        ensures device { λ _. ⌜ ((t : Bool) → Decides t (Utf8 (now (line .entry))) → now (self .exit) .device ≡ afterHeard (now (self .entry) .device) (reading t (now (line .entry)))) ⌝ }
+        ensures same { λ r. ⌜ (isError r ≡ true → now (self .exit) .device ≡ now (self .entry) .device) ⌝ }
+    {
+        self.respond(read(line))
     }
 }
