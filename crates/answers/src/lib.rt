@@ -1,4 +1,6 @@
 // What is answered to a line, and the text of it.
+#![tactic(auto)]
+
 ghost use Rattle.std.specs.Prelude.{Some};
 ghost use Rattle.answers.specs.Answers.{about_text, answer_text};
 

@@ -1,4 +1,6 @@
 // How a line is read.
+#![tactic(auto)]
+
 ghost use Rattle.std.specs.Prelude.{◌≡◌, Bool, IsUtf8, Decides};
 ghost use Rattle.words.specs.Words.{first_of, words};
 ghost use Rattle.lines.specs.Lines.{heard, Said, Understood};

@@ -1,4 +1,6 @@
 // What `rehearse` does with a line: the same lines as on a real device, on a device in memory.
+#![tactic(auto)]
+
 ghost use Rattle.std.specs.Prelude.{◌≡◌, Bool, true, None, IsUtf8, Decides};
 ghost use Rattle.lines.specs.Lines.{asked, heard, said};
 ghost use Rattle.reader.specs.Reads.{reading};

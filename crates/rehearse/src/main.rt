@@ -1,4 +1,6 @@
 // Plays lines on a device in memory, and answers each.
+#![tactic(auto)]
+
 use input::buffer::LineBuffer;
 use rehearsal::Rehearsal;
 use std::io::BufReader;

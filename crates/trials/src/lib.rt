@@ -1,4 +1,6 @@
 // Tests of the crates below, as they are compiled.
+#![tactic(auto)]
+
 #[cfg(test)]
 mod tests {
     use digits::hex::Hex;
