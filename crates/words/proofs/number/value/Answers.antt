@@ -9,15 +9,15 @@ use Rattle.words.proofs.number.value.Goals as goal
 pub appended-requires : goal.appended-requires
 appended-requires c = (digits_more c.args.digits.now c.loop-b.b-index c.loop-b-test.true (is_kind Decimal) c.loop-b.invariant.1).0
 
-pub returns-in-err-n : goal.returns-in-err-n
-returns-in-err-n c =
-    rw c.from-residual.ensures (value-over c.args.digits.now c.loop-b.b-index c.loop-b-test.true c.loop-b.n c.in-err-n.ensures c.loop-b.invariant.0)
+pub returns-in_err-n : goal.returns-in_err-n
+returns-in_err-n c =
+    rw c.from_residual.ensures (value-over c.args.digits.now c.loop-b.b-index c.loop-b-test.true c.loop-b.n c.in_err-n.ensures c.loop-b.invariant.0)
 
 pub loop-b-preserved : goal.loop-b-preserved
 loop-b-preserved c = (
-  value-more c.args.digits.now c.loop-b.b-index c.loop-b-test.true c.loop-b.n c.in-ok-n.n c.in-ok-n.ensures.1 c.loop-b.invariant.0,
+  value-more c.args.digits.now c.loop-b.b-index c.loop-b-test.true c.loop-b.n c.in_ok-n.n c.in_ok-n.ensures.1 c.loop-b.invariant.0,
   (digits_more c.args.digits.now c.loop-b.b-index c.loop-b-test.true (is_kind Decimal) c.loop-b.invariant.1).1,
-  rw c.in-ok-n.ensures.1 c.in-ok-n.ensures.0,
+  rw c.in_ok-n.ensures.1 c.in_ok-n.ensures.0,
 )
 
 pub returns : goal.returns

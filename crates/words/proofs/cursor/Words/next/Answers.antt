@@ -6,32 +6,32 @@ use Rattle.words.specs.declared.byte.Kind.TheVariants.{Blank, Solid}
 use Rattle.words.specs.Bytes.{is_kind}
 use Rattle.words.proofs.Cuts.{Cut, behind-blanks, before-blank, no_word, some_word}
 use Rattle.words.proofs.cursor.Words.next.Goals as goal
-use Rattle.words.proofs.cursor.Words.next.Goals.{After-split-at-2}
+use Rattle.words.proofs.cursor.Words.next.Goals.{After-split_at-2}
 
-pub split-at-requires : goal.split-at-requires
-split-at-requires c = rw (c.front.ensures, c.as-bytes.ensures.value) (behind-blanks _ (subst IsUtf8 c.as-bytes.ensures.value c.as-bytes.ensures.utf8))
+pub split_at-requires : goal.split_at-requires
+split_at-requires c = rw (c.front.ensures, c.as_bytes.ensures.value) (behind-blanks _ (subst IsUtf8 c.as_bytes.ensures.value c.as_bytes.ensures.utf8))
 
-pub split-at-requires-2 : goal.split-at-requires-2
-split-at-requires-2 c = rw (c.front-2.ensures, c.as-bytes-2.ensures.value) (before-blank _)
+pub split_at-requires-2 : goal.split_at-requires-2
+split_at-requires-2 c = rw (c.front-2.ensures, c.as_bytes-2.ensures.value) (before-blank _)
 
-cut : (c : After-split-at-2) → Cut c.args.self.now.rest.now c.split-at.result.1.now c.split-at-2.result.0.now c.split-at-2.result.1.now
+cut : (c : After-split_at-2) → Cut c.args.self.now.rest.now c.split_at.result.1.now c.split_at-2.result.0.now c.split_at-2.result.1.now
 cut c =
-    let n = c.front.ensures ∙ ap (prefix_len (is_kind Blank)) c.as-bytes.ensures.value in
-    let m = c.front-2.ensures ∙ ap (prefix_len (is_kind Solid)) c.as-bytes-2.ensures.value in
+    let n = c.front.ensures ∙ ap (prefix_len (is_kind Blank)) c.as_bytes.ensures.value in
+    let m = c.front-2.ensures ∙ ap (prefix_len (is_kind Solid)) c.as_bytes-2.ensures.value in
     record {
-      behind = c.split-at.ensures.back ∙ ap (λ k. drop k c.args.self.now.rest.now) n;
-      front = c.split-at-2.ensures.front ∙ ap (λ k. take k c.split-at.result.1.now) m;
-      back = c.split-at-2.ensures.back ∙ ap (λ k. drop k c.split-at.result.1.now) m;
+      behind = c.split_at.ensures.back ∙ ap (λ k. drop k c.args.self.now.rest.now) n;
+      front = c.split_at-2.ensures.front ∙ ap (λ k. take k c.split_at.result.1.now) m;
+      back = c.split_at-2.ensures.back ∙ ap (λ k. drop k c.split_at.result.1.now) m;
     }
 
-pub returns-then-is-empty : goal.returns-then-is-empty
-returns-then-is-empty c =
-    let none = no_word (cut (goal.at.returns-then-is-empty c).After-split-at-2) (eqb-true _ 0 (sym c.if-is-empty.ensures)) in
+pub returns-then-is_empty : goal.returns-then-is_empty
+returns-then-is_empty c =
+    let none = no_word (cut (goal.at.returns-then-is_empty c).After-split_at-2) (eqb-true _ 0 (sym c.if-is_empty.ensures)) in
     record { word = rw none.0 refl; rest = none.1 ∙ rw none.0 refl }
 
-pub returns-else-is-empty : goal.returns-else-is-empty
-returns-else-is-empty c =
-    let empty : length c.split-at-2.result.0.now ≡ 0 → ⊥ = eqb-false _ 0 (sym c.if-is-empty.ensures) in
-    let more : 0 < length c.split-at-2.result.0.now = grind arith in
-    let some = some_word (cut (goal.at.returns-else-is-empty c).After-split-at-2) more in
+pub returns-else-is_empty : goal.returns-else-is_empty
+returns-else-is_empty c =
+    let empty : length c.split_at-2.result.0.now ≡ 0 → ⊥ = eqb-false _ 0 (sym c.if-is_empty.ensures) in
+    let more : 0 < length c.split_at-2.result.0.now = grind arith in
+    let some = some_word (cut (goal.at.returns-else-is_empty c).After-split_at-2) more in
     record { word = rw some refl; rest = rw some refl }
