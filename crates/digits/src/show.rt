@@ -65,7 +65,7 @@ impl fmt::Display for Shown<'_> {
 }
 
 fn write_byte<W: fmt::Write>(f: &mut fmt::Formatter<W>, b: u8) -> fmt::Result
-    ensures { WritesOnOk write_str_gives f.old result (hex_of (b ∷ [])) f.new }
+    ensures { WritesOnOk W.write_str_gives f.old result (hex_of (b ∷ [])) f.new }
 {
     f.write_char(digit(b / 16))?;
     f.write_char(digit(b % 16))

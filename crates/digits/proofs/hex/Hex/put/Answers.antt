@@ -5,7 +5,7 @@ use Rattle.digits.proofs.hex.Hex.put.Goals as goal
 
 pub loop-i-preserved : goal.loop-i-preserved
 loop-i-preserved c =
-    let ds : List ℕ = c.as-bytes-digits.result.now in
+    let ds : List ℕ = c.as_bytes-digits.result.now in
     let i : ℕ = c.loop-i.i in
     let n = length-bytes_of ds in
     let inside : i < length (bytes_of ds) = omega arith in
@@ -17,8 +17,8 @@ loop-i-preserved c =
 
 pub returns : goal.returns
 returns c =
-    let ds : List ℕ = c.as-bytes-digits.result.now in
+    let ds : List ℕ = c.as_bytes-digits.result.now in
     let n = length-bytes_of ds in
     let ends : c.loop-i.i ≡ min (length (bytes_of ds)) 4096 = omega arith in
     c.loop-i.invariant ∙ put_all (bytes_of ds) c.args.block.now c.loop-i.i ends (omega arith)
-    ∙ ap (λ l. take 4096 (bytes_of l) ++ drop (length (bytes_of l)) c.args.block.now) c.as-bytes-digits.ensures.value
+    ∙ ap (λ l. take 4096 (bytes_of l) ++ drop (length (bytes_of l)) c.args.block.now) c.as_bytes-digits.ensures.value
