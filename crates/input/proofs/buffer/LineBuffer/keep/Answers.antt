@@ -14,4 +14,4 @@ returns c =
     let is : n ≡ min (length ys) (most - length xs) = omega arith in
     let part : length (take n ys) ≡ n = length-take-le n ys (omega arith) in
     let room : vec_len c.args.self.now.bytes + length (take n ys) ≤ vec_capacity c.args.self.now.bytes = omega (arith, c.args.self.now.room, c.args.self.now.few) in
-    c.extend-from-slice.ensures.items ∙ cond-true _ _ _ (c.extend-from-slice.ensures.succeeds room) ∙ kept most n xs ys (omega (arith, c.args.self.now.few)) is
+    c.extend_from_slice.ensures.items ∙ cond-true _ _ _ (c.extend_from_slice.ensures.succeeds room) ∙ kept most n xs ys (omega (arith, c.args.self.now.few)) is
