@@ -4,14 +4,12 @@
 use input::buffer::LineBuffer;
 use rehearsal::Rehearsal;
 use std::io::BufReader;
+use std::process::ExitCode;
 use std::{env, io};
 
 const USAGE: &str = "usage: rehearse
 Reads lines from standard input, plays them on a device in memory, and answers each.
 The first line is `format N V`: a device of N blocks, and a volume of number V on it.";
-
-#[derive(Drop)]
-struct Stopped;
 
 // Answers each line before it waits for the next.
 fn play(rt: &HostRuntime) -> io::Result<()> {
@@ -47,13 +45,13 @@ fn run(rt: &HostRuntime) -> io::Result<bool> {
     Ok(true)
 }
 
-fn main(rt: HostRuntime) -> Result<(), Stopped> {
+fn main(rt: HostRuntime) -> ExitCode {
     match run(&rt) {
-        Ok(true) => Ok(()),
-        Ok(false) => Err(Stopped),
+        Ok(true) => ExitCode::SUCCESS,
+        Ok(false) => ExitCode::FAILURE,
         Err(e) => {
             let _ = eprintln!(rt; "rehearse: {e}");
-            Err(Stopped)
+            ExitCode::FAILURE
         }
     }
 }

@@ -47,8 +47,8 @@ mod tests {
             "show",
             "list",
         ];
-        for text in texts {
-            assert!(rt; rewritten(rt.alloc(), text)?.as_str() == text, "{}", text);
+        for text in &texts {
+            assert!(rt; rewritten(rt.alloc(), text)?.as_str() == *text, "{}", text);
         }
         Ok(())
     }
