@@ -1,5 +1,5 @@
 -- A text of 0 and 1. Assumes nothing.
-use Rattle.std.specs.Prelude.{ℕ, Bool, true, false, cond, List, [], ◌∷◌, Some, None, Option, ◌==◌}
+use Rattle.std.specs.Prelude.{ℕ, cond, List, [], ◌∷◌, Some, None, Option, ◌==◌}
 use Rattle.words.specs.Bytes.{every, is_kind}
 use Rattle.digits.specs.declared.bits.Bits.{Bits}
 use Rattle.words.specs.declared.byte.Kind.TheVariants.{Bit}

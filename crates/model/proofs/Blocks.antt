@@ -5,7 +5,7 @@ use Rattle.std.proofs.lemmas.Bool.Decides.{nat_tests}
 use Rattle.std.proofs.lemmas.Bool.{cases_eq, eq-eqb, ne_eqb, leb-false, not-false, true≢false, cases_lt}
 use Rattle.std.proofs.lemmas.List.{length-set, get_or-set_same, get_or-set_other, get_or_past, length-append, length-replicate}
 use Rattle.rules.specs.Limits.{first_block}
-use Rattle.model.specs.Blocks.{is, is_reserved, is_free, is_used, use_at, used_at, lowest_in, is_full, usable, free_all, used_by, renew, unused}
+use Rattle.model.specs.Blocks.{is, is_reserved, is_free, is_used, use_at, used_at, lowest_in, is_full, free_all, used_by, renew, unused}
 use Rattle.model.specs.Sums.{bit, sum}
 use Rattle.model.specs.declared.types.Ptr.{Ptr}
 use Rattle.model.specs.declared.types.Slot.{Slot}

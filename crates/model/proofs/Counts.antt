@@ -2,7 +2,7 @@
 use Rattle.std.proofs.Common.{◌≡◌, ℕ, zero, suc, ◌+◌, ◌<◌, ◌≤◌, Bool, true, false, cond, not, List, [], ◌∷◌, length, get_or, set, filter, sym, refl, ap, ⊎_elim, arith}
 use Rattle.std.proofs.lemmas.List.{get_or-set_other}
 use Rattle.std.proofs.lemmas.Bool.{cases_eq, eq-eqb, lt-leb, leb-false}
-use Rattle.model.specs.Blocks.{is, is_free, is_used, use_at, used_at, lowest_in, is_full, usable, free_all, used_by}
+use Rattle.model.specs.Blocks.{is_free, is_used, use_at, used_at, lowest_in, is_full, usable, free_all, used_by}
 use Rattle.model.specs.Maps.{shown_in}
 use Rattle.model.specs.Sums.{bit, sum}
 use Rattle.model.specs.declared.types.Ptr.{Ptr}

@@ -6,7 +6,6 @@ use Rattle.model.specs.Bounds.{PtrFits, EntryFits, HoldFits, DiskFits, LimitsKep
 use Rattle.std.specs.List.{AllByRecursion as All}
 use Rattle.std.proofs.lemmas.Bool.{eq-eqb, eqb-true, and_parts, and_from}
 use Rattle.rules.specs.Limits.{most_slots, moment_end, name_end}
-use Rattle.model.specs.Calls.{hold}
 use Rattle.model.specs.Exactly.{Shown, by_disk, by_hold}
 use Rattle.model.specs.Gone.{map_at}
 use Rattle.model.specs.Holds.{base, Past, find, past_of}
@@ -15,7 +14,7 @@ use Rattle.model.specs.Runs.{reached}
 use Rattle.model.specs.Sound.{Early, Link, Line, Sound, Within}
 use Rattle.model.specs.Steps.{gone_at, start}
 use Rattle.model.specs.Sums.{bit, sum}
-use Rattle.model.specs.Volume.{Hold, Disk, Volume, since, before}
+use Rattle.model.specs.Volume.{Hold, Disk, Volume, since}
 use Rattle.model.specs.declared.types.Origin.{Origin}
 use Rattle.model.specs.declared.types.Ptr.{Ptr}
 use Rattle.model.specs.declared.types.Slot.TheVariants.{At}
@@ -28,7 +27,6 @@ use Rattle.model.proofs.Maps.{few-entries, rise-parts, look-here, look-past}
 use Rattle.model.proofs.Shows.{line_of, shown-used, exact, hold-rises}
 use Rattle.model.proofs.Stays.{found_in}
 use Rattle.model.proofs.Steps.{reached-sound}
-use Rattle.model.proofs.Sums.{one}
 
 -- THE NUMBERS of maps and lists
 -- a list has only pointers that the one before shows

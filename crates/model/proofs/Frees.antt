@@ -3,7 +3,7 @@ use Rattle.std.proofs.Common.{◌≡◌, ℕ, suc, ◌<◌, ◌≤◌, Bool, tru
 use Rattle.std.proofs.lemmas.List.{get_or-set_same, length-set}
 use Rattle.std.proofs.lemmas.Bool.{and_parts, leb-true, ltb-true}
 use Rattle.rules.specs.Limits.{most_slots}
-use Rattle.model.specs.Blocks.{frees, is, usable}
+use Rattle.model.specs.Blocks.{frees, usable}
 use Rattle.model.specs.Maps.{Map, look_in, set_in, shown_in, shown_by, rising, slots_rise}
 use Rattle.model.specs.Sound.{young, own_in, Sound}
 use Rattle.model.specs.Steps.{Change, leaving, showing, slot_for, change_at, changes_at, freed_at}

@@ -7,7 +7,7 @@ use Rattle.model.specs.Gone.{Shows, Has, Lists, map_at, map_before, GoneRight}
 use Rattle.model.specs.Holds.{Past, find, past_of, base}
 use Rattle.model.specs.Maps.{Map, shown_by, slots_rise}
 use Rattle.model.specs.Runs.{reached}
-use Rattle.model.specs.Sound.{young, Link, Line, own_in, own, Known, Sound}
+use Rattle.model.specs.Sound.{young, Link, Line, own_in, Known, Sound}
 use Rattle.model.specs.Steps.{gone_at}
 use Rattle.model.specs.Sums.{bit, sum}
 use Rattle.model.specs.Volume.{Hold, Volume, since}

@@ -6,7 +6,7 @@ use Rattle.std.proofs.lemmas.Bool.{cases_eq}
 use Rattle.std.proofs.lemmas.Bool.Decides.{nat_tests}
 use Rattle.rules.specs.Limits.{most_slots}
 use Rattle.model.specs.Blocks.{frees, keeps}
-use Rattle.model.specs.Holds.{past, find_hold}
+use Rattle.model.specs.Holds.{find_hold}
 use Rattle.model.specs.Maps.{Map, look_in, set_in, shown_in, shown_by, slots_rise}
 use Rattle.model.specs.Sound.{young, old, Link, Agree, Early, Version, HoldOk, Line, own_in}
 use Rattle.model.specs.Steps.{gone_at, with_gone, present_gone, regone}

@@ -6,7 +6,6 @@ use Rattle.std.specs.List.{prefix_len}
 use Rattle.std.proofs.lemmas.List.{nil_from_length}
 use Rattle.std.proofs.lemmas.Bool.{true≢false, and_parts, and_from, eq-eqb, eqb-true, cases_lt, leb-true, le-leb, lt-leb, or_cases, or_left, or_right}
 use Rattle.std.proofs.lemmas.Bool.Decides.{nat_tests}
-use Rattle.model.specs.Calls.{hold, name}
 use Rattle.model.specs.Refusals.{Meaning}
 use Rattle.model.specs.Tests.{changes_rise, follows, no_holds, same_mark, has_mark, is_none, is_new}
 use Rattle.model.specs.Volume.{Hold, Disk, blank, no_hold, disk_at, hold_at, place_of, hold_place, has_hold, holder_of, copy_of, is_copied}

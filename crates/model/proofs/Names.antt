@@ -9,7 +9,7 @@ use Rattle.model.specs.Runs.{told, refusal, reasons, does, step, run, reached}
 use Rattle.model.specs.Sound.{Sound}
 use Rattle.model.specs.Stays.{times, NamesOnce}
 use Rattle.model.specs.Steps.{change, released, showing, slot_for}
-use Rattle.model.specs.Steps.{Change, change_at, changes_at, holds_at, hold_of, held, fresh, joined}
+use Rattle.model.specs.Steps.{Change, change_at, changes_at, holds_at, hold_of, held, joined}
 use Rattle.model.specs.Sums.{bit}
 use Rattle.model.specs.Tests.{front, no_slot}
 use Rattle.model.specs.Volume.{Hold, Volume, blank, no_hold, disk_at, place_of, hold_place, holder_of}

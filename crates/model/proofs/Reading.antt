@@ -6,7 +6,7 @@ use Rattle.rules.specs.Limits.{most_slots}
 use Rattle.rules.specs.declared.refusal.Refusal.{Refusal}
 use Rattle.rules.specs.declared.refusal.Refusal.TheVariants.{Missing}
 use Rattle.model.specs.Blocks.{lowest_in, used_at}
-use Rattle.model.specs.Calls.{Call, write, clear, hold, release, copy, new, drop, take, sync, read, done, name, slot, Done, ask}
+use Rattle.model.specs.Calls.{Call, write, clear, hold, release, copy, new, drop, take, sync, done, name, slot, Done, ask}
 use Rattle.model.specs.Exactly.{by_disk, by_hold}
 use Rattle.model.specs.Holds.{Past, find}
 use Rattle.model.specs.Maps.{Map, look_in, set_in, slots_rise}

@@ -5,7 +5,7 @@ use Rattle.model.specs.Blocks.{used_at, is_used}
 use Rattle.std.specs.List.{AllByRecursion as All}
 use Rattle.std.proofs.lemmas.List.{nil_from_length}
 use Rattle.std.proofs.lemmas.Bool.{eqb-true, ne_eqb, not-false, true≢false}
-use Rattle.model.specs.Calls.{Call, write, clear, hold, release, copy, new, drop, take, sync, name, slot, ask}
+use Rattle.model.specs.Calls.{Call, write, clear, hold, release, copy, new, drop, take, sync, ask}
 use Rattle.model.specs.Exactly.{by_hold}
 use Rattle.model.specs.Holds.{Past, past, find, base}
 use Rattle.model.specs.Maps.{look_in, Map}

@@ -10,7 +10,7 @@ use Rattle.model.specs.Calls.{Call, write, clear, hold, release, copy, new, drop
 use Rattle.model.specs.Maps.{shown_in}
 use Rattle.model.specs.Runs.{Reason, reasons, refusal, does, decided, step, run}
 use Rattle.model.specs.Sound.{Sound}
-use Rattle.model.specs.Steps.{change, showing}
+use Rattle.model.specs.Steps.{showing}
 use Rattle.model.specs.Steps.{Change, slot_for, change_at, changes_at, leaving, start}
 use Rattle.model.specs.Tests.{front, written, writes, no_slot}
 use Rattle.model.specs.Volume.{Volume, disk_at, moment_last, place_of, holder_of}

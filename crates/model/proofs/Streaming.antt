@@ -4,7 +4,6 @@ use mathlib.Core.List.{Memᴰ}
 use Rattle.std.specs.List.{AllByRecursion as All}
 use Rattle.std.proofs.lemmas.Bool.{true≢false, ltb-true, ltb-false, cases_eq}
 use Rattle.rules.specs.Limits.{most_slots}
-use Rattle.model.specs.Calls.{slot}
 use Rattle.model.specs.Holds.{Past, past, past_of, nothing, base}
 use Rattle.model.specs.Maps.{Map, look_in, shown_in, rising}
 use Rattle.model.specs.Sound.{Agree, Early, Line, Sound}

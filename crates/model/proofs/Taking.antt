@@ -7,7 +7,7 @@ use Rattle.std.proofs.lemmas.Bool.{true≢false, ltb-false, lt-leb, eq-eqb, ne_e
 use Rattle.rules.specs.Limits.{most_slots}
 use Rattle.rules.specs.declared.refusal.Refusal.{Refusal}
 use Rattle.rules.specs.declared.refusal.Refusal.TheVariants.{Unfit}
-use Rattle.model.specs.Calls.{take, Value, slot, Done, Stream, count}
+use Rattle.model.specs.Calls.{take, Value, Done, Stream, count}
 use Rattle.model.specs.Exactly.{by_disk}
 use Rattle.model.specs.Holds.{Past, past_of}
 use Rattle.model.specs.Maps.{Map, look_in, set_in, rising}

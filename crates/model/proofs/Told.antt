@@ -3,12 +3,11 @@ use Rattle.std.proofs.Common.{◌≡◌, ℕ, suc, ◌<◌, ◌≤◌, Bool, tru
 use mathlib.Core.List.{Memᴰ}
 use Rattle.std.proofs.lemmas.List.{nil_from_length}
 use Rattle.std.proofs.lemmas.Bool.{or_parts, true≢false, ltb-true, lt-ltb, ltb-false, eqb-true, eq-eqb, not-false}
-use Rattle.std.proofs.lemmas.Bool.Decides.{nat_tests}
 use Rattle.rules.specs.Limits.{most_slots}
 use Rattle.rules.specs.declared.refusal.Refusal.{Refusal}
 use Rattle.rules.specs.declared.refusal.Refusal.TheVariants.{Missing, Copied, Spent}
 use Rattle.model.specs.Blocks.{frees, is, has, use_at, used_at, is_used, is_spare, usable, lowest_in, renew}
-use Rattle.model.specs.Calls.{Call, write, clear, hold, release, copy, new, drop, take, sync, would, free, Value, done, count, Done, ask}
+use Rattle.model.specs.Calls.{Call, write, clear, hold, release, copy, new, drop, take, sync, would, Value, done, count, Done, ask}
 use Rattle.model.specs.Exactly.{Shown, by_disk, by_hold}
 use Rattle.model.specs.Freed.{freed_in, Frees, FreedRight, may, Turning, Told, ToldBefore, OneList, holder}
 use Rattle.model.specs.Maps.{rising, shown_in}
@@ -17,7 +16,7 @@ use Rattle.model.specs.Sound.{Sound}
 use Rattle.model.specs.Steps.{change}
 use Rattle.model.specs.Steps.{Change, Put, slot_for, put_for, puts_at, change_at, gone_after, synced}
 use Rattle.model.specs.Sums.{bit, sum}
-use Rattle.model.specs.Tests.{front, written, writes, no_slot, no_holder, no_moment}
+use Rattle.model.specs.Tests.{front, writes, no_slot, no_holder, no_moment}
 use Rattle.model.specs.Volume.{Volume, hold_place, holder_of, place_of, moment_before, is_copied}
 use Rattle.model.specs.declared.types.Ptr.{Ptr}
 use Rattle.model.specs.declared.types.Slot.TheVariants.{Empty}

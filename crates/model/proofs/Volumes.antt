@@ -6,13 +6,13 @@ use Rattle.std.proofs.lemmas.List.{length-map}
 use Rattle.std.proofs.lemmas.Bool.{eqb-false, eq-eqb, ne_eqb, cases_eq}
 use Rattle.std.proofs.lemmas.Bool.Decides.{nat_tests}
 use Rattle.rules.specs.Limits.{first_block, most_slots}
-use Rattle.model.specs.Blocks.{frees, keeps, is, is_reserved, use_at, is_used, free_all, used_by, renew}
-use Rattle.model.specs.Holds.{Past, past, nothing, find, find_hold, past_of, base, named, names_in}
+use Rattle.model.specs.Blocks.{frees, is, is_reserved, use_at, is_used, free_all, used_by, renew}
+use Rattle.model.specs.Holds.{Past, past, find, find_hold, past_of, base, named, names_in}
 use Rattle.model.specs.Maps.{Map, shown_in, shown_by, rising}
 use Rattle.model.specs.Sound.{Line, own, own_in, Known, DiskOk, Sound}
 use Rattle.model.specs.Steps.{changed, leaving, showing, show_at, hold_of, held, holds_at, freed_by, joined, released, release_at, fresh, grown, origin_of, freed_with, drop_at, synced, start}
 use Rattle.model.specs.Sums.{bit, sum}
-use Rattle.model.specs.Volume.{Hold, Disk, Volume, blank, no_hold, disk_at, hold_at, hold_named, holder_of, copy_of, since, moment_last, before}
+use Rattle.model.specs.Volume.{Hold, Disk, Volume, blank, no_hold, disk_at, hold_at, hold_named, holder_of, copy_of, since, moment_last}
 use Rattle.model.specs.declared.types.HoldHead.{HoldHead}
 use Rattle.model.specs.declared.types.Mark.{Mark}
 use Rattle.model.specs.declared.types.Origin.{Origin}

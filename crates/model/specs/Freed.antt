@@ -4,7 +4,7 @@ use mathlib.Core.List.{Memᴰ}
 use Rattle.rules.specs.declared.refusal.Refusal.{Refusal}
 use Rattle.rules.specs.declared.refusal.Refusal.TheVariants.{Spent}
 use Rattle.model.specs.Blocks.{is, has, use_at, spare}
-use Rattle.model.specs.Calls.{Call, write, clear, hold, release, copy, new, drop, take, sync, would, free, Value, done, count, ask}
+use Rattle.model.specs.Calls.{Call, write, clear, hold, release, copy, new, drop, take, sync, would, Value, done, count, ask}
 use Rattle.model.specs.Exactly.{Shown}
 use Rattle.model.specs.Runs.{step, reached}
 use Rattle.model.specs.Steps.{change}

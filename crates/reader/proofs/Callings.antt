@@ -1,5 +1,5 @@
 -- A call that was written out, read again. Assumes nothing.
-use Rattle.std.proofs.Common.{◌≡◌, ℕ, Bool, true, false, List, [], ◌∷◌, Some, None, Ok, Err, decimal, sym, refl, ap, ◌∙◌}
+use Rattle.std.proofs.Common.{◌≡◌, ℕ, false, List, [], ◌∷◌, Some, None, Ok, decimal, refl}
 use Rattle.words.proofs.Decimals.{number-again}
 use Rattle.words.specs.Words.{marked}
 use Rattle.commands.specs.Commands.{command_of, word_of}

@@ -1,11 +1,10 @@
 -- A call that is understood is one that a line can have. Assumes nothing.
-use Rattle.std.proofs.Common.{◌≡◌, ℕ, ◌^◌, ◌<◌, ◌≤◌, Bool, true, false, cond, List, [], ◌∷◌, length, drop, Some, None, Ok, Err, Option, Result, sym, refl, ap, ◌∙◌, subst, arith}
+use Rattle.std.proofs.Common.{◌≡◌, ℕ, ◌^◌, ◌<◌, true, List, [], ◌∷◌, length, drop, Some, None, Ok, Err, Option, Result, refl, subst, arith}
 use Rattle.std.specs.List.{AllByRecursion as All}
 use Rattle.std.proofs.lemmas.Bool.Decides.{nat_tests}
 use Rattle.words.proofs.Parts.{Solid}
 use Rattle.words.specs.Bytes.{is_word}
 use Rattle.words.specs.Numbers.{number_of}
-use Rattle.words.specs.Words.{first_of}
 use Rattle.words.specs.declared.number.Number as numbers
 use Rattle.words.specs.declared.number.Number.TheVariants as number
 use Rattle.digits.specs.Hex.{hex_fault}
@@ -13,10 +12,9 @@ use Rattle.digits.specs.declared.hex.NotHex.{NotHex}
 use Rattle.digits.specs.declared.hex.NotHex.TheVariants as hex
 use Rattle.commands.specs.declared.command.Command.{Command}
 use Rattle.commands.specs.declared.command.Command.TheVariants as command
-use Rattle.commands.specs.declared.trouble.Why.{Why}
 use Rattle.lines.specs.Lines.{Asked, Format, Write, Clear, Hold, Release, Would, Copy, New, Drop, Read, ReadHold, Free, Sync, Stream, Take, Show, Listing}
 use Rattle.reader.specs.Proper.{Number, File, Bytes, ProperCall}
-use Rattle.reader.specs.Args.{then, capped, exactly, word_in, number_in, exact_in, fine, hex_at, hex_in, end_in, one_in, two_in}
+use Rattle.reader.specs.Args.{then, capped, exactly, word_in, number_in, exact_in, fine, hex_in, end_in, one_in, two_in}
 use Rattle.reader.specs.Reads.{call_in}
 
 -- an answer is not a refusal

@@ -1,5 +1,5 @@
 -- A line that is understood is one that a line can be. Assumes nothing.
-use Rattle.std.proofs.Common.{◌≡◌, ℕ, Bool, true, false, cond, eqb, List, [], ◌∷◌, drop, Some, None, Ok, Err, Option, Result, sym, refl, ap, ◌∙◌, subst, arith}
+use Rattle.std.proofs.Common.{◌≡◌, ℕ, Bool, true, false, cond, eqb, List, [], ◌∷◌, drop, Some, None, Ok, Err, Option, Result, refl, ap, ◌∙◌, subst, arith}
 use Rattle.std.specs.List.{AllByRecursion as All}
 use Rattle.words.proofs.Parts.{Solid}
 use Rattle.words.specs.Bytes.{every, is_bit}
@@ -10,10 +10,10 @@ use Rattle.commands.specs.declared.command.Command.{Command}
 use Rattle.commands.specs.declared.command.Command.TheVariants as command
 use Rattle.commands.specs.declared.trouble.Why.{Why}
 use Rattle.commands.specs.declared.trouble.Trouble.{Trouble}
-use Rattle.lines.specs.Lines.{Asked, Said, Plain, Power, Cut, Heard, Skipped, Understood, Misread}
+use Rattle.lines.specs.Lines.{Asked, Said, Plain, Cut, Heard, Skipped, Understood, Misread}
 use Rattle.reader.specs.Proper.{ProperCall, ProperSaid}
 use Rattle.reader.specs.Args.{then, number_in, some_bits, bits_of}
-use Rattle.reader.specs.Reads.{formed, call_in, commanded, call_of, stop_at, stop_in, power_in, is_power, said_as, said_by, outcome, heard_by}
+use Rattle.reader.specs.Reads.{formed, call_in, commanded, call_of, stop_in, power_in, is_power, said_by, outcome, heard_by}
 use Rattle.reader.proofs.Gained.{not_err, same_ok, by-then, number-in, fewer, gained}
 
 by-formed : {A X : Type 0} {a : A} (c : Command) (r : Result A Why) → formed c r ≡ Ok a → (r ≡ Ok a → X) → X

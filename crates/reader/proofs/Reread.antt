@@ -1,5 +1,5 @@
 -- A line that was written out, read again. Assumes nothing.
-use Rattle.std.proofs.Common.{◌≡◌, ℕ, ◌≤◌, Bool, true, false, cond, ltb, List, [], ◌∷◌, length, Some, Ok, IsUtf8, sym, refl, ap, ◌∙◌, arith}
+use Rattle.std.proofs.Common.{◌≡◌, ℕ, true, false, List, [], ◌∷◌, length, Some, Ok, IsUtf8, refl, ap, ◌∙◌, arith}
 use Rattle.std.proofs.lemmas.Bool.{cond-true, cond-false, le-ltb}
 use Rattle.std.proofs.lemmas.Bool.Decides.{nat_tests}
 use Rattle.words.proofs.Decimals.{number-again}
@@ -7,7 +7,7 @@ use Rattle.words.proofs.Spaced.{words-spaced}
 use Rattle.digits.specs.Bits.{bits_in, bits_text}
 use Rattle.words.specs.Bytes.{every, is_bit}
 use Rattle.words.specs.Words.{first_of, remark, words}
-use Rattle.lines.specs.Lines.{Asked, Said, Plain, Power, Cut, Heard, Understood}
+use Rattle.lines.specs.Lines.{Asked, Said, Plain, Power, Cut, Understood}
 use Rattle.lines.specs.Texts.{line_words, words_of, written}
 use Rattle.reader.specs.Proper.{Proper, ProperCall, ProperSaid}
 use Rattle.reader.specs.Args.{then}

@@ -1,7 +1,7 @@
 -- An error changes nothing. Assumes nothing.
-use Rattle.std.proofs.Common.{◌≡◌, ℕ, Bool, true, false, Some, None, Option, refl}
+use Rattle.std.proofs.Common.{◌≡◌, ℕ, true, Some, None, Option, refl}
 use Rattle.std.proofs.lemmas.Bool.{false≢true}
-use Rattle.lines.specs.Lines.{Asked, Said, Heard, Format, Write, Clear, Hold, Release, Would, Copy, New, Drop, Read, ReadHold, Free, Sync, Stream, Take, Show, Listing, Plain, Power, Cut, Skipped, Understood, Misread}
+use Rattle.lines.specs.Lines.{Asked, Heard, Format, Write, Clear, Hold, Release, Would, Copy, New, Drop, Read, ReadHold, Free, Sync, Stream, Take, Show, Listing, Plain, Power, Cut, Skipped, Understood, Misread}
 use Rattle.rehearsal.specs.declared.Formatted.{Formatted}
 use Rattle.rehearsal.specs.Playing.{after_call, after_heard, answer_to_call, answer_to_heard, format_answer, formatted, is_error, or_else}
 

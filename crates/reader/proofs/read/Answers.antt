@@ -1,4 +1,4 @@
-use Rattle.std.proofs.Common.{◌≡◌, true, IsUtf8, sym, refl, ap, ◌∙◌, subst}
+use Rattle.std.proofs.Common.{true, IsUtf8, sym, refl, ap, ◌∙◌, subst}
 use Rattle.reader.specs.Reads.{reading}
 use Rattle.reader.proofs.Reread.{written_read, written-text}
 use Rattle.reader.proofs.read.Goals as goal

@@ -1,4 +1,4 @@
-use Rattle.std.proofs.Common.{◌≡◌, sym, ◌∙◌, rules}
+use Rattle.std.proofs.Common.{sym, ◌∙◌, rules}
 use Rattle.words.proofs.Parts.{parts}
 use Rattle.words.specs.Words.{words}
 use Rattle.reader.proofs.Heeded.{heard-by}

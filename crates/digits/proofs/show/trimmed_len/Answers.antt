@@ -1,4 +1,4 @@
-use Rattle.std.proofs.Common.{◌≡◌, length, get_or, drop, refl, ap, ◌∙◌, arith}
+use Rattle.std.proofs.Common.{length, ap, arith}
 use Rattle.std.proofs.lemmas.List.{drop_all}
 use Rattle.digits.specs.Hex.{all_zero}
 use Rattle.digits.proofs.Zeros.{trimmed-at, zeros-more}

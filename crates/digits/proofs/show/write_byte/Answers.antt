@@ -1,5 +1,4 @@
-use Rattle.std.proofs.Common.{◌≡◌, ◌/◌, ◌%◌, is_ok, ap, arith}
-use lib.Utf8.{encode}
+use Rattle.std.proofs.Common.{◌/◌, ◌%◌, is_ok, ap, arith}
 use Rattle.std.proofs.Output.{has_written_append, has_written_of_eq}
 use Rattle.digits.proofs.Written.{encode-hex_char}
 use Rattle.digits.proofs.show.write_byte.Goals as goal

@@ -1,4 +1,4 @@
-use Rattle.std.proofs.Common.{◌≡◌, sym, ap, ◌∙◌}
+use Rattle.std.proofs.Common.{sym, ap, ◌∙◌}
 use Rattle.lines.specs.Lines.{heard}
 use Rattle.rehearsal.specs.Playing.{after_heard, answer_to_heard, is_error}
 use Rattle.rehearsal.proofs.Errors.{heard-same}

@@ -1,4 +1,4 @@
-use Rattle.std.proofs.Common.{◌≡◌, ℕ, ◌+◌, ◌*◌, ◌<◌, min, List, ◌++◌, length, take, drop, set, sym, ap, ◌∙◌, arith}
+use Rattle.std.proofs.Common.{◌≡◌, ℕ, ◌+◌, ◌*◌, ◌<◌, min, List, ◌++◌, length, take, drop, set, ap, ◌∙◌, arith}
 use Rattle.digits.specs.Hex.{bytes_of}
 use Rattle.digits.proofs.Pairs.{length-bytes_of, byte_at, put-more, put_all}
 use Rattle.digits.proofs.hex.Hex.put.Goals as goal

@@ -1,4 +1,4 @@
-use Rattle.std.proofs.Common.{◌≡◌, is_ok, ap}
+use Rattle.std.proofs.Common.{is_ok, ap}
 use Rattle.digits.proofs.Written.{put-none, put_byte, put-all-bytes}
 use Rattle.digits.proofs.show.ShownDisplay.fmt.Goals as goal
 
