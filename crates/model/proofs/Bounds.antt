@@ -1,6 +1,6 @@
 -- Every call keeps within the limits.
 use Rattle.std.proofs.Common.{◌≡◌, ℕ, zero, suc, ◌+◌, ◌<◌, ◌≤◌, Bool, true, false, cond, not, ◌||◌, ltb, leb, List, [], ◌∷◌, ◌++◌, length, Some, None, Option, refl, ap, ◌∙◌, arith}
-use Rattle.std.specs.List.{remove, AllByRecursion as All}
+use Rattle.std.specs.List.{remove, AllByRecursion}
 use Rattle.std.proofs.ByRecursion.{All-set, All-push, All-get_or}
 use Rattle.std.proofs.lemmas.List.{length-set, length-map, length-append, length_push, get_or-set_same}
 use Rattle.std.proofs.lemmas.Bool.{or_parts, leb-false, ltb-false}
@@ -80,7 +80,7 @@ pub record Like (v w : Volume) (i k : ℕ) : Type 0 where
   pub moment : w.moment ≡ v.moment + k
   pub names : w.names ≡ v.names
   pub disks : length w.disks ≡ length v.disks
-  pub holds : All FewHolds v.disks → All FewHolds w.disks
+  pub holds : AllByRecursion FewHolds v.disks → AllByRecursion FewHolds w.disks
   pub here : length (disk_at i w.disks).holds ≡ length (disk_at i v.disks).holds
   pub uses : length w.uses ≡ length v.uses
 
@@ -111,7 +111,7 @@ moment-left k v h = leb-false moment_end (v.moment + k) h
 name-left : (v : Volume) → no_name v ≡ false → v.names + 1 < name_end
 name-left v h = leb-false name_end (v.names + 1) h
 
-hold-within : (i : ℕ) (m : Option Mark) (v : Volume) → i < length v.disks → All FewHolds v.disks → length (disk_at i v.disks).holds < most_holds → All FewHolds (holds_at i m v).disks
+hold-within : (i : ℕ) (m : Option Mark) (v : Volume) → i < length v.disks → AllByRecursion FewHolds v.disks → length (disk_at i v.disks).holds < most_holds → AllByRecursion FewHolds (holds_at i m v).disks
 hold-within i m v lt few less =
     let d = disk_at i v.disks in
     All-set FewHolds v.disks i _ (omega (arith, length_push d.holds (hold_of (record { name = v.names; moment = v.moment }) d))) few
@@ -133,7 +133,7 @@ does-same sync v no' = (refl, length-map v.uses renew)
 does-same (ask q) v no' = (refl, refl)
 
 module _ (c : Call) (v : Volume) (no' : NoneApplies (reasons c v)) (ok : Within v) where
-  still : (does c v).leaves.moment < moment_end → (does c v).leaves.names < name_end → length (does c v).leaves.disks ≤ most_disks → All FewHolds (does c v).leaves.disks → area_bytes (does c v).leaves ≤ area_room → Within (does c v).leaves
+  still : (does c v).leaves.moment < moment_end → (does c v).leaves.names < name_end → length (does c v).leaves.disks ≤ most_disks → AllByRecursion FewHolds (does c v).leaves.disks → area_bytes (does c v).leaves ≤ area_room → Within (does c v).leaves
   still moment names disks holds space =
       let e = does-same c v no' in
       record { number = rw e.0 ok.number; moment = moment; names = names; disks = disks; holds = holds; room = space; least = rw e.1 ok.least; most = rw e.1 ok.most }

@@ -1,7 +1,7 @@
 -- Lists of disks: where a disk or a hold is found, and what a change of one disk leaves of that.
 use Rattle.std.proofs.Common.{◌≡◌, ℕ, zero, suc, ◌+◌, ◌<◌, ◌≤◌, Bool, true, false, cond, not, eqb, leb, List, [], ◌∷◌, ◌++◌, map, length, get_or, set, Some, None, Option, sym, refl, ap, ◌∙◌, subst, arith}
 use mathlib.Core.List.{Memᴰ}
-use Rattle.std.specs.List.{remove, AllByRecursion as All}
+use Rattle.std.specs.List.{remove, AllByRecursion}
 use Rattle.std.proofs.lemmas.Bool.{eqb-true, ltb-true, leb-false, not-false, or_parts}
 use Rattle.std.proofs.lemmas.Bool.Decides.{nat_tests}
 use Rattle.model.specs.Holds.{Past, past, or_else, find_hold, find, past_of, base}
@@ -15,7 +15,7 @@ pub none≢some : {X : Type 0} (p : X) → None ≡ Some p → ⊥
 none≢some p e = let z : ◌≡◌ {A = ℕ} 0 1 = cc in omega arith
 
 -- what holds of each
-pub all-mem : {X : Type 0} (P : X → Type 0) (d : X) (ds : List X) → All P ds → Memᴰ d ds → P d
+pub all-mem : {X : Type 0} (P : X → Type 0) (d : X) (ds : List X) → AllByRecursion P ds → Memᴰ d ds → P d
 all-mem P d [] a m = elim m [ ]
 all-mem P d (x ∷ ds) a (Memᴰ.head e) = subst P (sym e) a.0
 all-mem P d (x ∷ ds) a (Memᴰ.tail m) = all-mem P d ds a.1 m
@@ -25,11 +25,11 @@ mem-at [] i z lt = absurd (omega arith)
 mem-at (x ∷ xs) zero z lt = Memᴰ.head refl
 mem-at (x ∷ xs) (suc i) z lt = Memᴰ.tail (mem-at xs i z (omega arith))
 
-pub all_both : {X : Type 0} (P Q : X → Type 0) (xs : List X) → All P xs → All Q xs → All (λ x. P x × Q x) xs
+pub all_both : {X : Type 0} (P Q : X → Type 0) (xs : List X) → AllByRecursion P xs → AllByRecursion Q xs → AllByRecursion (λ x. P x × Q x) xs
 all_both P Q [] a b = tt
 all_both P Q (x ∷ xs) a b = ((a.0, b.0), all_both P Q xs a.1 b.1)
 
-pub all-removed : {X : Type 0} (P : X → Type 0) (xs : List X) (i : ℕ) → All P xs → All P (remove xs i)
+pub all-removed : {X : Type 0} (P : X → Type 0) (xs : List X) (i : ℕ) → AllByRecursion P xs → AllByRecursion P (remove xs i)
 all-removed P [] zero a = tt
 all-removed P [] (suc i) a = tt
 all-removed P (x ∷ xs) zero a = a.1
@@ -146,7 +146,7 @@ find-missing n (d ∷ ds) le = go (has_hold n d) refl (find-missing n ds) le
         rw (find_none n d.holds le') (again (omega arith))
 
 -- no disk is a copy of a hold
-pub none-copied : (n : ℕ) (ds : List Disk) → is_copied n ds ≡ false → All (λ d. copy_of n d.from ≡ false) ds
+pub none-copied : (n : ℕ) (ds : List Disk) → is_copied n ds ≡ false → AllByRecursion (λ d. copy_of n d.from ≡ false) ds
 none-copied n [] h = tt
 none-copied n (d ∷ ds) h = let p = or_parts (copy_of n d.from) (is_copied n ds) h in (p.0, none-copied n ds p.1)
 

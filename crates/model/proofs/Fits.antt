@@ -3,7 +3,7 @@ use Rattle.std.proofs.Common.{◌≡◌, ℕ, zero, suc, ◌+◌, ◌<◌, ◌�
 use mathlib.Core.List.{Memᴰ}
 use Rattle.model.specs.Blocks.{free_all}
 use Rattle.model.specs.Bounds.{PtrFits, EntryFits, HoldFits, DiskFits, LimitsKept, LimitsReached}
-use Rattle.std.specs.List.{AllByRecursion as All}
+use Rattle.std.specs.List.{AllByRecursion}
 use Rattle.std.proofs.lemmas.Bool.{eq-eqb, eqb-true, and_parts, and_from}
 use Rattle.rules.specs.Limits.{most_slots, moment_end, name_end}
 use Rattle.model.specs.Exactly.{Shown, by_disk, by_hold}
@@ -37,7 +37,7 @@ same-one : (p : Ptr) → same_ptr p p ≡ 1
 unfolding same_ptr
 same-one p = ap bit (and_from _ _ (eq-eqb p.block p.block refl) (eq-eqb p.birth p.birth refl))
 
-sum-all : (P : Ptr → Type 0) (p : Ptr) (l : List Ptr) → ((r : Ptr) → p.block ≡ r.block → p.birth ≡ r.birth → P r → P p) → 1 ≤ sum (same_ptr p) l → All P l → P p
+sum-all : (P : Ptr → Type 0) (p : Ptr) (l : List Ptr) → ((r : Ptr) → p.block ≡ r.block → p.birth ≡ r.birth → P r → P p) → 1 ≤ sum (same_ptr p) l → AllByRecursion P l → P p
 unfolding same_ptr
 sum-all P p [] f h a = absurd (omega arith)
 sum-all P p (r ∷ l) f h a = go (eqb p.block r.block && eqb p.birth r.birth) refl (λ k. sum-all P p l f k a.1) h
@@ -51,16 +51,16 @@ mem-one p [] m = elim m [ ]
 mem-one p (r ∷ l) (Memᴰ.head e) = let z : same_ptr p r ≡ 1 = ap (same_ptr p) (sym e) ∙ same-one p in omega arith
 mem-one p (r ∷ l) (Memᴰ.tail m) = omega (arith, mem-one p l m)
 
-all_of : {X : Type 0} (P : X → Type 0) (l : List X) → ((p : X) → Memᴰ p l → P p) → All P l
+all_of : {X : Type 0} (P : X → Type 0) (l : List X) → ((p : X) → Memᴰ p l → P p) → AllByRecursion P l
 all_of P [] f = tt
 all_of P (p ∷ l) f = (f p (Memᴰ.head refl), all_of P l (λ q m. f q (Memᴰ.tail m)))
 
-link_fits : (k : ℕ) (q m : Map) (g : List Ptr) → Link k q m g → All PtrFits (shown_by q) → All PtrFits g
+link_fits : (k : ℕ) (q m : Map) (g : List Ptr) → Link k q m g → AllByRecursion PtrFits (shown_by q) → AllByRecursion PtrFits g
 link_fits k q m g link a =
     all_of PtrFits g (λ p x. sum-all PtrFits p (shown_by q) (λ r e f h. (omega (arith, h.0), omega (arith, h.1), omega (arith, h.2))) (omega (arith, link (same_ptr p), mem-one p g x)) a)
 
 -- the entries of a map
-entries_fit : (n : ℕ) (m : Map) → rising most_slots n (map (λ e. e.slot) m) ≡ true → All PtrFits (shown_by m) → All EntryFits m
+entries_fit : (n : ℕ) (m : Map) → rising most_slots n (map (λ e. e.slot) m) ≡ true → AllByRecursion PtrFits (shown_by m) → AllByRecursion EntryFits m
 entries_fit n [] h a = tt
 entries_fit n (e ∷ m) h a = let p = rise-parts most_slots n e.slot (map (λ f. f.slot) m) h in ((p.1, a.0), entries_fit (suc e.slot) m p.2 a.1)
 
@@ -74,7 +74,7 @@ look-of n (e ∷ m) h p (Memᴰ.tail x) =
     (k.0, look-past k.0 e m k.2 ∙ k.1, omega (arith, k.2, r.0))
 
 module _ (v : Volume) (inv : Sound v) (ok : Within v) where
-  map-fits : (m : Map) (t : ℕ) → t ≤ v.moment → slots_rise m ≡ true → Early t m → ((s : ℕ) (p : Ptr) → look_in s m ≡ At p → Shown v p.block) → All PtrFits (shown_by m)
+  map-fits : (m : Map) (t : ℕ) → t ≤ v.moment → slots_rise m ≡ true → Early t m → ((s : ℕ) (p : Ptr) → look_in s m ≡ At p → Shown v p.block) → AllByRecursion PtrFits (shown_by m)
   map-fits m t le rises early shown =
       all_of PtrFits (shown_by m) (λ p x.
       let r = look-of 0 m rises p x in
@@ -83,16 +83,16 @@ module _ (v : Volume) (inv : Sound v) (ok : Within v) where
       (i.0, omega (arith, i.1, ok.most), omega (arith, b.1, ok.moment)))
 
   -- what comes before a disk's oldest version
-  base-fits : (f : Option Origin) → All PtrFits (shown_by (base v.disks f).shows)
+  base-fits : (f : Option Origin) → AllByRecursion PtrFits (shown_by (base v.disks f).shows)
   base-fits None = tt
   base-fits (Some o) = go (find o.hold v.disks) refl
     where
-      go : (f : Option Past) → find o.hold v.disks ≡ f → All PtrFits (shown_by (past_of f).shows)
+      go : (f : Option Past) → find o.hold v.disks ≡ f → AllByRecursion PtrFits (shown_by (past_of f).shows)
       go None e = tt
       go (Some p) e =
           let (d, h, m, mh, q, n) = found_in v inv o.hold p e in
           let early = hold-early v.moment v.names (since d.from) _ d.holds d.shows d.gone h (line_of v inv d m) mh in
-          subst (λ (y : Past). All PtrFits (shown_by y.shows)) q
+          subst (λ (y : Past). AllByRecursion PtrFits (shown_by y.shows)) q
           (map-fits h.shows h.moment (omega (arith, early.0)) (hold-rises v inv d h m mh) early.1 (λ s r l. by_hold d h s r m mh l refl))
         where
           hold-early : (now names k : ℕ) (q : Map) (hs : List Hold) (m : Map) (g : List Ptr) (h : Hold) → Line now names k q hs m g → Memᴰ h hs → (h.moment < now) × Early h.moment h.shows
@@ -102,8 +102,8 @@ module _ (v : Volume) (inv : Sound v) (ok : Within v) where
 
   -- the versions of a disk, of which hs are the holds from some place on
   module _ (d : Disk) (md : Memᴰ d v.disks) where
-    versions : (k : ℕ) (q : Map) (hs : List Hold) → ((h : Hold) → Memᴰ h hs → Memᴰ h d.holds) → All PtrFits (shown_by q) → slots_rise q ≡ true → Line v.moment v.names k q hs d.shows d.gone → (j : ℕ) →
-        ((length (map_at j hs d.shows) ≤ most_slots) × All EntryFits (map_at j hs d.shows)) × All PtrFits (gone_at j hs d.gone)
+    versions : (k : ℕ) (q : Map) (hs : List Hold) → ((h : Hold) → Memᴰ h hs → Memᴰ h d.holds) → AllByRecursion PtrFits (shown_by q) → slots_rise q ≡ true → Line v.moment v.names k q hs d.shows d.gone → (j : ℕ) →
+        ((length (map_at j hs d.shows) ≤ most_slots) × AllByRecursion EntryFits (map_at j hs d.shows)) × AllByRecursion PtrFits (gone_at j hs d.gone)
     versions k q [] f a rq l j =
         let p = map-fits d.shows v.moment (omega arith) l.rises l.early (λ s r e. by_disk d s r md e refl) in
         ((few-entries d.shows l.rises, entries_fit 0 d.shows l.rises p), link_fits k q d.shows d.gone l.link a)
@@ -113,12 +113,12 @@ module _ (v : Volume) (inv : Sound v) (ok : Within v) where
         let again = versions h.moment h.shows hs (λ c m. f c (Memᴰ.tail m)) p x.rises l.1 in
         go j p (link_fits k q h.shows h.gone x.link a) again
       where
-        go : (i : ℕ) → All PtrFits (shown_by h.shows) → All PtrFits h.gone → ((c : ℕ) → ((length (map_at c hs d.shows) ≤ most_slots) × All EntryFits (map_at c hs d.shows)) × All PtrFits (gone_at c hs d.gone)) →
-            ((length (map_at i (h ∷ hs) d.shows) ≤ most_slots) × All EntryFits (map_at i (h ∷ hs) d.shows)) × All PtrFits (gone_at i (h ∷ hs) d.gone)
+        go : (i : ℕ) → AllByRecursion PtrFits (shown_by h.shows) → AllByRecursion PtrFits h.gone → ((c : ℕ) → ((length (map_at c hs d.shows) ≤ most_slots) × AllByRecursion EntryFits (map_at c hs d.shows)) × AllByRecursion PtrFits (gone_at c hs d.gone)) →
+            ((length (map_at i (h ∷ hs) d.shows) ≤ most_slots) × AllByRecursion EntryFits (map_at i (h ∷ hs) d.shows)) × AllByRecursion PtrFits (gone_at i (h ∷ hs) d.gone)
         go zero p g again = ((few-entries h.shows l.0.version.rises, entries_fit 0 h.shows l.0.version.rises p), g)
         go (suc i) p g again = again i
 
-    hold-numbers : (now names k : ℕ) (q : Map) (hs : List Hold) (m : Map) (g : List Ptr) → now < moment_end → names < name_end → Line now names k q hs m g → All HoldFits hs
+    hold-numbers : (now names k : ℕ) (q : Map) (hs : List Hold) (m : Map) (g : List Ptr) → now < moment_end → names < name_end → Line now names k q hs m g → AllByRecursion HoldFits hs
     hold-numbers now names k q [] m g a b l = tt
     hold-numbers now names k q (h ∷ hs) m g a b l = ((omega (arith, l.0.name), omega (arith, l.0.past)), hold-numbers now names h.moment h.shows hs m g a b l.1)
 

@@ -1,6 +1,6 @@
 -- What holds of a disk's versions, one after the other, and why it holds again after each step.
 use Rattle.std.proofs.Common.{◌≡◌, ℕ, zero, suc, ◌+◌, ◌<◌, ◌≤◌, true, List, [], ◌∷◌, ◌++◌, length, sym, refl, ap, ◌∙◌, ⊎_elim, arith}
-use Rattle.std.specs.List.{remove, AllByRecursion as All}
+use Rattle.std.specs.List.{remove, AllByRecursion}
 use Rattle.std.proofs.ByRecursion.{All-weaker}
 use Rattle.std.proofs.lemmas.Bool.{cases_eq}
 use Rattle.std.proofs.lemmas.Bool.Decides.{nat_tests}
@@ -47,14 +47,14 @@ present-rises now names k q (h ∷ hs) m g ok = present-rises now names h.moment
 
 -- A SLOT shows a block born at this moment, or nothing.
 abbrev pub Born : ℕ → Slot → Type 0
-Born now x = All (λ p. p.birth ≡ now) (shown_in x)
+Born now x = AllByRecursion (λ p. p.birth ≡ now) (shown_in x)
 
 module _ (now names s : ℕ) (x : Slot) (lt : s < most_slots) (born : Born now x) where
   slot-young : (k : ℕ) → k < now → (w : Ptr → ℕ) (y : Slot) → Born now y → (sum (young k w) (shown_in y) ≡ sum w (shown_in y)) × (sum (old k w) (shown_in y) ≡ 0)
   slot-young k less w Empty b = (refl, refl)
   slot-young k less w (At p) b = let e = b.0 in (grind (arith, nat_tests), grind (arith, nat_tests))
 
-  slot-early : 0 < now → (y : Slot) → Born now y → All (λ p. (0 < p.birth) × (p.birth < now + 1)) (shown_in y)
+  slot-early : 0 < now → (y : Slot) → Born now y → AllByRecursion (λ p. (0 < p.birth) × (p.birth < now + 1)) (shown_in y)
   slot-early begun Empty b = tt
   slot-early begun (At p) b = ((omega (arith, b.0), omega (arith, b.0)), tt)
 

@@ -1,6 +1,6 @@
 -- Maps: what a slot shows after another was set, that slots go on rising, and what the blocks come to.
 use Rattle.std.proofs.Common.{◌≡◌, ℕ, suc, ◌+◌, ◌<◌, ◌≤◌, true, ltb, leb, List, [], ◌∷◌, map, length, sym, refl, ap, ◌∙◌, ⊎_elim, arith}
-use Rattle.std.specs.List.{AllByRecursion as All}
+use Rattle.std.specs.List.{AllByRecursion}
 use Rattle.std.proofs.lemmas.Bool.{lt-ltb, le-ltb, le-leb, eq-eqb, ne_eqb, leb-true, ltb-true, and_parts, and_from, cases_order}
 use Rattle.rules.specs.Limits.{most_slots}
 use Rattle.model.specs.Maps.{Map, look_in, put_in, remove_in, set_in, shown_in, shown_by, entry, rising, slots_rise}
@@ -202,22 +202,22 @@ sum-set_in w s Empty es = omega (arith, sum-remove w s es)
 sum-set_in w s (At p) es = omega (arith, sum-put w s p es)
 
 -- what holds of each block of a map
-all-put : (P : Ptr → Type 0) (s : ℕ) (p : Ptr) (es : Map) → P p → All P (shown_by es) → All P (shown_by (put_in s p es))
+all-put : (P : Ptr → Type 0) (s : ℕ) (p : Ptr) (es : Map) → P p → AllByRecursion P (shown_by es) → AllByRecursion P (shown_by (put_in s p es))
 unfolding put_in
 all-put P s p [] y a = (y, tt)
 all-put P s p (e ∷ es) y a =
     by_order s e es _ (λ x. rw (put-here s e es p x) (y, a.1)) (λ x. rw (put-past s e es p x) (a.0, all-put P s p es y a.1)) (λ x. rw (put-above s e es p x) (y, a))
 
-all_remove : (P : Ptr → Type 0) (s : ℕ) (es : Map) → All P (shown_by es) → All P (shown_by (remove_in s es))
+all_remove : (P : Ptr → Type 0) (s : ℕ) (es : Map) → AllByRecursion P (shown_by es) → AllByRecursion P (shown_by (remove_in s es))
 unfolding remove_in
 all_remove P s [] a = tt
 all_remove P s (e ∷ es) a =
     by_order s e es _ (λ x. rw (remove-here s e es x) a.1) (λ x. rw (remove-past s e es x) (a.0, all_remove P s es a.1)) (λ x. rw (remove-above s e es x) a)
 
-pub all-set_in : (P : Ptr → Type 0) (s : ℕ) (x : Slot) (es : Map) → All P (shown_in x) → All P (shown_by es) → All P (shown_by (set_in s x es))
+pub all-set_in : (P : Ptr → Type 0) (s : ℕ) (x : Slot) (es : Map) → AllByRecursion P (shown_in x) → AllByRecursion P (shown_by es) → AllByRecursion P (shown_by (set_in s x es))
 all-set_in P s Empty es y a = all_remove P s es a
 all-set_in P s (At p) es y a = all-put P s p es y.0 a
 
-pub look-all : (P : Ptr → Type 0) (s : ℕ) (es : Map) → All P (shown_by es) → All P (shown_in (look_in s es))
+pub look-all : (P : Ptr → Type 0) (s : ℕ) (es : Map) → AllByRecursion P (shown_by es) → AllByRecursion P (shown_in (look_in s es))
 look-all P s [] a = rw (look_none s) tt
 look-all P s (e ∷ es) a = by_order s e es _ (λ x. rw (look-here s e es x) (a.0, tt)) (λ x. rw (look-past s e es x) (look-all P s es a.1)) (λ x. rw (look-above s e es x) tt)

@@ -1,6 +1,6 @@
 -- What was written is read, and everything else reads as before.
 use Rattle.std.proofs.Common.{◌≡◌, ℕ, suc, ◌<◌, Bool, true, false, cond, ◌&&◌, ltb, leb, List, [], ◌∷◌, length, set, Some, None, Ok, Err, Option, Result, sym, refl, ap, ◌∙◌, subst, ⊎_elim, arith}
-use Rattle.std.specs.List.{AllByRecursion as All}
+use Rattle.std.specs.List.{AllByRecursion}
 use Rattle.std.proofs.lemmas.Bool.{or_parts, cases_eq, eq-eqb, lt-leb}
 use Rattle.rules.specs.Limits.{most_slots}
 use Rattle.rules.specs.declared.refusal.Refusal.{Refusal}
@@ -81,7 +81,7 @@ map-rises v inv y m e =
     subst (λ (n : Map). slots_rise n ≡ true) r.1 (present-rises v.moment v.names _ _ d.holds d.shows d.gone (disk-ok v inv (place_of y v.disks) r.0).line)
 
 -- changes of the disk of a name x
-changes-kept : (x y j : ℕ) (cs : List Change) (v : Volume) (m : Map) (i : ℕ) → i ≡ place_of x v.disks → i < length v.disks → All (λ c. c.slot < most_slots) cs → (x ≡ y → All (λ c. c.slot ≡ j → ⊥) cs) → slots_rise m ≡ true →
+changes-kept : (x y j : ℕ) (cs : List Change) (v : Volume) (m : Map) (i : ℕ) → i ≡ place_of x v.disks → i < length v.disks → AllByRecursion (λ c. c.slot < most_slots) cs → (x ≡ y → AllByRecursion (λ c. c.slot ≡ j → ⊥) cs) → slots_rise m ≡ true →
     seen y v.disks ≡ Some m → Kept y j m (changes_at i cs v).disks
 changes-kept x y j [] v m i e lt small leaves rises s = record { now = m; there = s; same = refl }
 changes-kept x y j (c ∷ cs) v m i e lt small leaves rises s =
@@ -109,12 +109,12 @@ changes-kept x y j (c ∷ cs) v m i e lt small leaves rises s =
 hold-seen : (i : ℕ) (m : Option Mark) (v : Volume) (y : ℕ) → seen y (holds_at i m v).disks ≡ seen y v.disks
 hold-seen i m v y = seen_same map_in y v.disks i (held (record { name = v.names; moment = v.moment }) m (disk_at i v.disks)) refl refl
 
-all-front : (P : Change → Type 0) (n : ℕ) (cs : List Change) → All P cs → All P (front n cs)
+all-front : (P : Change → Type 0) (n : ℕ) (cs : List Change) → AllByRecursion P cs → AllByRecursion P (front n cs)
 unfolding front
 all-front P n [] a = tt
 all-front P n (c ∷ cs) a = go (leb n c.slot && ltb c.slot most_slots) (all-front P (suc c.slot) cs a.1)
   where
-    go : (b : Bool) → All P (front (suc c.slot) cs) → All P (cond b (c ∷ front (suc c.slot) cs) [])
+    go : (b : Bool) → AllByRecursion P (front (suc c.slot) cs) → AllByRecursion P (cond b (c ∷ front (suc c.slot) cs) [])
     go true again = (a.0, again)
     go false again = tt
 

@@ -2,7 +2,7 @@
 use Rattle.std.proofs.Common.{◌≡◌, ℕ, zero, suc, ◌+◌, ◌<◌, ◌≤◌, Bool, true, false, cond, ◌||◌, eqb, ltb, leb, ◌⊎◌, List, [], ◌∷◌, map, length, Some, None, Option, sym, refl, ap, ◌∙◌, subst, inl, inr, ⊎_elim, arith}
 use mathlib.Core.List.{Memᴰ}
 use Rattle.model.specs.Blocks.{is, has, use_at, used_at}
-use Rattle.std.specs.List.{AllByRecursion as All}
+use Rattle.std.specs.List.{AllByRecursion}
 use Rattle.std.proofs.lemmas.Bool.{cases_lt, ltb-true, lt-ltb, or_cases, or_left, or_right, or_parts, ltb-false, true≢false, eq-eqb, eqb-true}
 use Rattle.std.proofs.lemmas.Bool.Decides.{nat_tests, same_from_decides}
 use Rattle.rules.specs.Limits.{first_block, most_slots}
@@ -107,7 +107,7 @@ abbrev Ok : (now names : ℕ) → List Disk → Disk → Type 0
 Ok now names ds d = DiskOk now names (base ds d.from) d
 
 -- what comes before a disk's oldest version is among the own blocks of the disks before
-base-bound : (now names : ℕ) (ds : List Disk) → All (Ok now names ds) ds → (w : Ptr → ℕ) (n : ℕ) (d : Disk) → Memᴰ d ds → since d.from < n →
+base-bound : (now names : ℕ) (ds : List Disk) → AllByRecursion (Ok now names ds) ds → (w : Ptr → ℕ) (n : ℕ) (d : Disk) → Memᴰ d ds → since d.from < n →
     sum w (shown_by (base ds d.from).shows) ≤ below (since d.from) w ds
 base-bound now names ds all w zero d m lt = absurd (omega arith)
 base-bound now names ds all w (suc n) d m lt = go d.from (all-mem _ d ds all m).origin (λ e. base-bound now names ds all w n e) lt

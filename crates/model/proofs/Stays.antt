@@ -2,7 +2,7 @@
 use Rattle.std.proofs.Common.{◌≡◌, ℕ, ◌<◌, true, cond, eqb, List, [], ◌∷◌, length, Some, Option, sym, refl, ap, ◌∙◌, subst, arith}
 use mathlib.Core.List.{Memᴰ}
 use Rattle.model.specs.Blocks.{used_at, is_used}
-use Rattle.std.specs.List.{AllByRecursion as All}
+use Rattle.std.specs.List.{AllByRecursion}
 use Rattle.std.proofs.lemmas.List.{nil_from_length}
 use Rattle.std.proofs.lemmas.Bool.{eqb-true, ne_eqb, not-false, true≢false}
 use Rattle.model.specs.Calls.{Call, write, clear, hold, release, copy, new, drop, take, sync, ask}
@@ -92,7 +92,7 @@ shown-by-hold v inv x p e j r l =
     let (d, h, m, mh, q, n) = found_in v inv x p e in
     shown-used v inv r.block (by_hold d h j r m mh (ap (λ (y : Past). look_in j y.shows) q ∙ l) refl)
 
-stays : (more : List Call) (s : Store) → Sound s.volume → (x : ℕ) (p : Past) → find x s.volume.disks ≡ Some p → All (λ c. c ≡ release x → ⊥) more →
+stays : (more : List Call) (s : Store) → Sound s.volume → (x : ℕ) (p : Past) → find x s.volume.disks ≡ Some p → AllByRecursion (λ c. c ≡ release x → ⊥) more →
     (find x (plays more s).volume.disks ≡ Some p) × ((j : ℕ) (r : Ptr) → look_in j p.shows ≡ At r → (plays more s).bytes r.block ≡ s.bytes r.block)
 stays [] s inv x p e others = (e, λ j r l. refl)
 stays (c ∷ more) s inv x p e others =

@@ -1,6 +1,6 @@
 -- Every call keeps what holds of a volume.
 use Rattle.std.proofs.Common.{◌≡◌, ℕ, suc, ◌+◌, ◌<◌, ◌≤◌, Bool, true, false, cond, ◌&&◌, ltb, leb, List, [], ◌∷◌, length, Some, None, Option, refl, ◌∙◌, arith}
-use Rattle.std.specs.List.{AllByRecursion as All}
+use Rattle.std.specs.List.{AllByRecursion}
 use Rattle.std.proofs.lemmas.List.{length-set, nil_from_length}
 use Rattle.std.proofs.lemmas.Bool.{or_parts, and_parts, leb-false, ltb-false, ltb-true, eqb-true, not-false}
 use Rattle.rules.specs.Limits.{most_slots}
@@ -62,7 +62,7 @@ length-written (Some bs) v = refl
 
 -- CHANGES, one after the other: each slot is one, and there are blocks for all that are written
 abbrev pub Small : List Change → Type 0
-Small cs = All (λ c. c.slot < most_slots) cs
+Small cs = AllByRecursion (λ c. c.slot < most_slots) cs
 
 module _ (i : ℕ) (c : Change) (v : Volume) (inv : Sound v) (lt : i < length v.disks) (enough : written c.bytes ≤ usable v.uses) where
   pub change-usable : Usable (slot_for c.bytes v) v.uses

@@ -1,7 +1,7 @@
 -- A stream has what changed between two holds of one disk, and nothing else.
 use Rattle.std.proofs.Common.{◌≡◌, ℕ, zero, suc, ◌+◌, ◌<◌, ◌≤◌, Bool, true, false, cond, List, [], ◌∷◌, map, length, Option, sym, refl, ap, ◌∙◌, subst, ⊎_elim, arith}
 use mathlib.Core.List.{Memᴰ}
-use Rattle.std.specs.List.{AllByRecursion as All}
+use Rattle.std.specs.List.{AllByRecursion}
 use Rattle.std.proofs.lemmas.Bool.{true≢false, ltb-true, ltb-false, cases_eq}
 use Rattle.rules.specs.Limits.{most_slots}
 use Rattle.model.specs.Holds.{Past, past, past_of, nothing, base}
@@ -40,7 +40,7 @@ both-agree now names k q (suc a) (suc b) (h ∷ hs) m g less lt ok = both-agree 
 -- from nothing: everything was born after it
 from_nothing_lem : (t : ℕ) (m : Map) → Early t m → Agree 0 [] m
 from_nothing_lem t m early s p e le =
-    let all : All (λ (r : Ptr). (0 < r.birth) × (r.birth < t)) (shown_in (At p)) = subst (λ x. All (λ (r : Ptr). (0 < r.birth) × (r.birth < t)) (shown_in x)) e (look-all (λ r. (0 < r.birth) × (r.birth < t)) s m early) in
+    let all : AllByRecursion (λ (r : Ptr). (0 < r.birth) × (r.birth < t)) (shown_in (At p)) = subst (λ x. AllByRecursion (λ (r : Ptr). (0 < r.birth) × (r.birth < t)) (shown_in x)) e (look-all (λ r. (0 < r.birth) × (r.birth < t)) s m early) in
     absurd (omega (arith, all.0.0))
 
 pub ordered-apart : (v : Volume) → Sound v → (d : Disk) → Memᴰ d v.disks → (newer : Past) (older : Option Past) → Ordered d newer older → Apart (past_of older) newer
@@ -62,9 +62,9 @@ same-slot k Empty Empty a e = refl
 same-slot k (At q) Empty a e = absurd (true≢false e)
 
 -- one that is in it doesn't
-apart-slot : (k : ℕ) (o n : Slot) → All (λ p. (0 < p.birth) × (p.birth < k)) (shown_in o) → differs k o n ≡ true → o ≡ n → ⊥
+apart-slot : (k : ℕ) (o n : Slot) → AllByRecursion (λ p. (0 < p.birth) × (p.birth < k)) (shown_in o) → differs k o n ≡ true → o ≡ n → ⊥
 apart-slot k o (At p) early e q =
-    let a : All (λ (r : Ptr). (0 < r.birth) × (r.birth < k)) (shown_in (At p)) = subst (λ x. All (λ (r : Ptr). (0 < r.birth) × (r.birth < k)) (shown_in x)) q early in
+    let a : AllByRecursion (λ (r : Ptr). (0 < r.birth) × (r.birth < k)) (shown_in (At p)) = subst (λ x. AllByRecursion (λ (r : Ptr). (0 < r.birth) × (r.birth < k)) (shown_in x)) q early in
     omega (arith, a.0.1, ltb-true k p.birth e)
 apart-slot k Empty Empty early e q = true≢false (sym e)
 apart-slot k (At r) Empty early e q = let z : ◌≡◌ {A = ℕ} 0 1 = cc in omega arith

@@ -1,6 +1,6 @@
 -- Sums of weights over lists.
 use Rattle.std.proofs.Common.{◌≡◌, ℕ, zero, suc, ◌+◌, ◌<◌, ◌≤◌, Bool, true, false, List, [], ◌∷◌, ◌++◌, length, get_or, set, refl, arith}
-use Rattle.std.specs.List.{remove, AllByRecursion as All}
+use Rattle.std.specs.List.{remove, AllByRecursion}
 use Rattle.std.proofs.lemmas.Bool.Decides.{nat_tests}
 use Rattle.model.specs.Blocks.{frees, keeps}
 use Rattle.model.specs.Sound.{young, old}
@@ -71,6 +71,6 @@ pub split : (m : ℕ) (w : Ptr → ℕ) (l : List Ptr) → sum (young m w) l + s
 split m w l = sum-add (young m w) (old m w) w (λ p. grind (arith, nat_tests)) l
 
 -- what was born before a moment isn't younger
-pub young-none : (t : ℕ) (l : List Ptr) → All (λ p. (0 < p.birth) × (p.birth < t)) l → (w : Ptr → ℕ) → sum (young t w) l ≡ 0
+pub young-none : (t : ℕ) (l : List Ptr) → AllByRecursion (λ p. (0 < p.birth) × (p.birth < t)) l → (w : Ptr → ℕ) → sum (young t w) l ≡ 0
 young-none t [] e w = refl
 young-none t (p ∷ l) e w = let again = young-none t l e.1 w in let lt = e.0.1 in grind (arith, nat_tests)

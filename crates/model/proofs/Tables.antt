@@ -1,6 +1,6 @@
 -- The table of uses after some blocks became free and a slot's block was taken into use.
 use Rattle.std.proofs.Common.{◌≡◌, ℕ, ◌+◌, ◌<◌, ◌≤◌, Bool, true, false, ◌⊎◌, List, length, set, sym, refl, ap, ◌∙◌, inl, inr, ⊎_elim, arith}
-use Rattle.std.specs.List.{AllByRecursion as All}
+use Rattle.std.specs.List.{AllByRecursion}
 use Rattle.std.proofs.lemmas.Bool.{cases_eq, cases_lt, eq-eqb, ne_eqb, true≢false}
 use Rattle.std.proofs.lemmas.List.{get_or_past, get_or-set_same}
 use Rattle.model.specs.Blocks.{is, is_reserved, is_free, is_used, use_at, used_at, free_all, used_by}
@@ -15,7 +15,7 @@ use Rattle.model.proofs.Blocks.{used-there, free-unused, free_open, used-open, l
 
 -- the slot's block may be used
 abbrev pub Usable : Slot → List Use → Type 0
-Usable x us = All (λ p. is_free (use_at p.block us) ≡ true) (shown_in x)
+Usable x us = AllByRecursion (λ p. is_free (use_at p.block us) ≡ true) (shown_in x)
 
 -- the blocks of a list are in use
 abbrev pub InUse : List Ptr → List Use → Type 0

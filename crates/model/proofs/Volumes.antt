@@ -1,6 +1,6 @@
 -- Each step keeps what holds of a volume.
 use Rattle.std.proofs.Common.{◌≡◌, ℕ, suc, ◌+◌, ◌-◌, ◌<◌, ◌≤◌, true, false, ◌||◌, ltb, leb, List, [], ◌∷◌, ◌++◌, length, set, Some, None, Option, sym, refl, ap, ◌∙◌, ⊎_elim, arith}
-use Rattle.std.specs.List.{remove, AllByRecursion as All}
+use Rattle.std.specs.List.{remove, AllByRecursion}
 use Rattle.std.proofs.ByRecursion.{All-weaker, All-set, All-get_or, All-push}
 use Rattle.std.proofs.lemmas.List.{length-map}
 use Rattle.std.proofs.lemmas.Bool.{eqb-false, eq-eqb, ne_eqb, cases_eq}
@@ -39,15 +39,15 @@ disk-later now now' names names' q d a b ok =
     }
 
 -- names that were given are below the next
-hold-names : (names x : ℕ) (hs : List Hold) → names ≤ x → All (λ h. h.name < names) hs → sum (λ h. named x h.name) hs ≡ 0
+hold-names : (names x : ℕ) (hs : List Hold) → names ≤ x → AllByRecursion (λ h. h.name < names) hs → sum (λ h. named x h.name) hs ≡ 0
 hold-names names x [] le a = refl
 hold-names names x (h ∷ hs) le a = let here : named x h.name ≡ 0 = ap bit (ne_eqb h.name x (λ e. omega (arith, a.0))) in omega (arith, here, hold-names names x hs le a.1)
 
-line-names : (now names k : ℕ) (q : Map) (hs : List Hold) (m : Map) (g : List Ptr) → Line now names k q hs m g → All (λ h. h.name < names) hs
+line-names : (now names k : ℕ) (q : Map) (hs : List Hold) (m : Map) (g : List Ptr) → Line now names k q hs m g → AllByRecursion (λ h. h.name < names) hs
 line-names now names k q [] m g ok = tt
 line-names now names k q (h ∷ hs) m g ok = (ok.0.name, line-names now names h.moment h.shows hs m g ok.1)
 
-no_name : (now names n x : ℕ) (base' : Option Origin → Past) (ds : List Disk) → names ≤ x → All (λ d. DiskOk now names (base' d.from) d) ds → rising names n (disk_names ds) ≡ true → sum (names_in x) ds ≡ 0
+no_name : (now names n x : ℕ) (base' : Option Origin → Past) (ds : List Disk) → names ≤ x → AllByRecursion (λ d. DiskOk now names (base' d.from) d) ds → rising names n (disk_names ds) ≡ true → sum (names_in x) ds ≡ 0
 no_name now names n x base' [] le all h = refl
 no_name now names n x base' (d ∷ ds) le all h =
     let p = rise-parts names n d.name (disk_names ds) h in
@@ -64,7 +64,7 @@ more-once names x a b one none e =
 pub record Turn (v : Volume) (i : ℕ) (d : Disk) (names : ℕ) (x : Slot) (fs : List Ptr) (K : Option Origin → Type 0) : Type 0 where
   pub name : d.name ≡ (disk_at i v.disks).name
   pub more : v.names ≤ names
-  pub kept : All (λ e. K e.from) v.disks
+  pub kept : AllByRecursion (λ e. K e.from) v.disks
   pub here : K d.from
   pub finds : (o : Origin) → K (Some o) → find_hold o.hold d.holds ≡ find_hold o.hold (disk_at i v.disks).holds
   pub ok : DiskOk (v.moment + 1) names (base v.disks d.from) d
@@ -105,7 +105,7 @@ module _ (v : Volume) (inv : Sound v) where
   abbrev Any : Option Origin → Type 0
   Any f = Unit {0}
 
-  all_any : All (λ e. Any e.from) v.disks
+  all_any : AllByRecursion (λ e. Any e.from) v.disks
   all_any = All-weaker _ _ (λ e _. tt) v.disks inv.each
 
   -- a slot shows a block that may be used, born at this moment, or nothing
@@ -178,7 +178,7 @@ module _ (v : Volume) (inv : Sound v) where
   release-used i j lt within = own-used i lt (freed_by j (disk_at i v.disks)) (λ w. omega (arith, release-own-in i j lt within w))
 
   -- a hold is released, of which no disk is a copy
-  pub release-sound : (i j : ℕ) → i < length v.disks → j < length (disk_at i v.disks).holds → All (λ e. copy_of (hold_at j (disk_at i v.disks).holds).name e.from ≡ false) v.disks → Sound (release_at i j v)
+  pub release-sound : (i j : ℕ) → i < length v.disks → j < length (disk_at i v.disks).holds → AllByRecursion (λ e. copy_of (hold_at j (disk_at i v.disks).holds).name e.from ≡ false) v.disks → Sound (release_at i j v)
   release-sound i j lt within alone =
       let d = disk_at i v.disks in
       let n = (hold_at j d.holds).name in

@@ -1,7 +1,7 @@
 -- What was accepted fits its bytes, and the limits can be reached. Assumes nothing.
 use Rattle.std.specs.Prelude.{◌≡◌, ℕ, ◌<◌, ◌≤◌, List, [], length, replicate, Some, Ok, Err}
 use mathlib.Core.List.{Memᴰ}
-use Rattle.std.specs.List.{AllByRecursion as All}
+use Rattle.std.specs.List.{AllByRecursion}
 use Rattle.rules.specs.Limits.{volume_of, first_block, most_blocks, most_slots, moment_end, name_end}
 use Rattle.rules.specs.declared.refusal.Refusal.TheVariants.{Missing, TooMuch}
 use Rattle.model.specs.Calls.{Call, write, hold, new, free, done, count, ask}
@@ -26,9 +26,9 @@ HoldFits h = (h.name < name_end) × (h.moment < moment_end)
 -- each map and each list of a disk, by its place, the present's behind the last hold
 pub record DiskFits (d : Disk) : Type 0 where
   pub name : d.name < name_end
-  pub holds : All HoldFits d.holds
-  pub maps : (j : ℕ) → j ≤ length d.holds → (length (map_at j d.holds d.shows) ≤ most_slots) × All EntryFits (map_at j d.holds d.shows)
-  pub lists : (j : ℕ) → j ≤ length d.holds → (length (gone_at j d.holds d.gone) ≤ most_slots) × All PtrFits (gone_at j d.holds d.gone)
+  pub holds : AllByRecursion HoldFits d.holds
+  pub maps : (j : ℕ) → j ≤ length d.holds → (length (map_at j d.holds d.shows) ≤ most_slots) × AllByRecursion EntryFits (map_at j d.holds d.shows)
+  pub lists : (j : ℕ) → j ≤ length d.holds → (length (gone_at j d.holds d.gone) ≤ most_slots) × AllByRecursion PtrFits (gone_at j d.holds d.gone)
 
 -- From a format with numbers that fit, every call leaves a volume within its limits, all of whose numbers fit. It keeps its own number, and
 -- has all the blocks of its device.

@@ -1,6 +1,6 @@
 -- What reads answer, and what calls do to that. Assumes nothing.
 use Rattle.std.specs.Prelude.{◌≡◌, ℕ, ◌<◌, List, [], replicate, Ok, Err, Result, ◌≢◌}
-use Rattle.std.specs.List.{AllByRecursion as All}
+use Rattle.std.specs.List.{AllByRecursion}
 use Rattle.rules.specs.Limits.{most_slots, block_bytes}
 use Rattle.rules.specs.declared.refusal.Refusal.{Refusal}
 use Rattle.model.specs.Calls.{Call, write, clear, hold, release, copy, new, drop, take, sync, read, readhold, done, name, count, slot, Answer, ask}
@@ -33,7 +33,7 @@ Leaves (release h) y j = Unit {0}
 Leaves (copy h) y j = Unit {0}
 Leaves new y j = Unit {0}
 Leaves (drop d) y j = d ≡ y → ⊥
-Leaves (take d st) y j = d ≡ y → All (λ c. c.slot ≢ j) st.changes
+Leaves (take d st) y j = d ≡ y → AllByRecursion (λ c. c.slot ≢ j) st.changes
 Leaves sync y j = Unit {0}
 Leaves (ask q) y j = Unit {0}
 

@@ -1,6 +1,6 @@
 -- What holds of a volume at every moment. Assumes nothing.
 use Rattle.std.specs.Prelude.{◌≡◌, ℕ, ◌+◌, ◌<◌, ◌≤◌, true, cond, ◌||◌, List, [], ◌∷◌, map, length, Some, None, Option, nat_le, nat_lt}
-use Rattle.std.specs.List.{AllByRecursion as All}
+use Rattle.std.specs.List.{AllByRecursion}
 use Rattle.rules.specs.Limits.{first_block, most_disks, most_holds, area_room, moment_end, name_end, least_blocks, most_blocks}
 use Rattle.model.specs.Blocks.{is, is_reserved, use_at, used_at}
 use Rattle.model.specs.Holds.{Past, base, names_in}
@@ -29,7 +29,7 @@ Agree k q m = (s : ℕ) (p : Ptr) → look_in s m ≡ At p → p.birth ≤ k →
 
 -- Every block of a map was born at a moment before t; moments count from 1.
 abbrev pub Early : ℕ → Map → Type 0
-Early t m = All (λ p. (0 < p.birth) × (p.birth < t)) (shown_by m)
+Early t m = AllByRecursion (λ p. (0 < p.birth) × (p.birth < t)) (shown_by m)
 
 -- a map that a disk showed before a moment, with its list, after a map q held at the moment k
 pub record Version (t k : ℕ) (q m : Map) (g : List Ptr) : Type 0 where
@@ -74,7 +74,7 @@ total w ds = sum (own w) ds
 -- WHAT HOLDS: each disk's versions hang together; disks stand by rising name; no name is there twice, of disks and holds together; each
 -- block in use is some version's own, once; and the first blocks, which hold roots and areas, are used for nothing else.
 pub record Sound (v : Volume) : Type 0 where
-  pub each : All (λ d. DiskOk v.moment v.names (base v.disks d.from) d) v.disks
+  pub each : AllByRecursion (λ d. DiskOk v.moment v.names (base v.disks d.from) d) v.disks
   pub begun : 0 < v.names
   pub order : rising v.names 0 (map (λ d. d.name) v.disks) ≡ true
   pub once : (x : ℕ) → sum (names_in x) v.disks ≤ 1
@@ -87,7 +87,7 @@ pub record Within (v : Volume) : Type 0 where
   pub moment : v.moment < moment_end
   pub names : v.names < name_end
   pub disks : length v.disks ≤ most_disks
-  pub holds : All (λ d. length d.holds ≤ most_holds) v.disks
+  pub holds : AllByRecursion (λ d. length d.holds ≤ most_holds) v.disks
   pub room : area_bytes v ≤ area_room
   pub least : least_blocks ≤ length v.uses
   pub most : length v.uses ≤ most_blocks

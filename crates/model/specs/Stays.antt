@@ -1,6 +1,6 @@
 -- Holds stay as they are, and no name is given twice. Assumes nothing.
 use Rattle.std.specs.Prelude.{◌≡◌, ℕ, ◌+◌, ◌<◌, ◌≤◌, List, Some, Ok, ◌≢◌}
-use Rattle.std.specs.List.{AllByRecursion as All}
+use Rattle.std.specs.List.{AllByRecursion}
 use Rattle.model.specs.Calls.{Call, release, drop, name, done}
 use Rattle.model.specs.Holds.{Past, find, names_in}
 use Rattle.model.specs.Maps.{look_in}
@@ -15,7 +15,7 @@ use Rattle.model.specs.declared.types.Slot.TheVariants.{At}
 -- bytes of each block that it shows are what they were.
 abbrev pub HoldsStay : Type 0
 HoldsStay = (blocks number : ℕ) (bytes : Bytes) (calls more : List Call) (x : ℕ) (p : Past) → let s = stored blocks number bytes calls in let t = plays more s in
-    find x s.volume.disks ≡ Some p → All (λ c. c ≢ release x) more →
+    find x s.volume.disks ≡ Some p → AllByRecursion (λ c. c ≢ release x) more →
     (find x t.volume.disks ≡ Some p) × ((j : ℕ) (r : Ptr) → look_in j p.shows ≡ At r → t.bytes r.block ≡ s.bytes r.block)
 
 -- how many disks and holds have a name

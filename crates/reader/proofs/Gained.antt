@@ -1,6 +1,6 @@
 -- A call that is understood is one that a line can have. Assumes nothing.
 use Rattle.std.proofs.Common.{◌≡◌, ℕ, ◌^◌, ◌<◌, true, List, [], ◌∷◌, length, drop, Some, None, Ok, Err, Option, Result, refl, subst, arith}
-use Rattle.std.specs.List.{AllByRecursion as All}
+use Rattle.std.specs.List.{AllByRecursion}
 use Rattle.std.proofs.lemmas.Bool.Decides.{nat_tests}
 use Rattle.words.proofs.Parts.{Solid}
 use Rattle.words.specs.Bytes.{is_word}
@@ -66,11 +66,11 @@ two_in_lem ws x p =
     (λ n is q. by-then (one_in (drop 1 ws)) (λ m. Ok (n, m)) q (λ m so r. subst (λ y. Number y.0 × Number y.1) (same_ok r) (number-in ws n is, one_in_lem (drop 1 ws) m so)))
 
 -- the words of a list that is shorter at its front
-pub fewer : (ws : List (List ℕ)) → All Solid ws → All Solid (drop 1 ws)
+pub fewer : (ws : List (List ℕ)) → AllByRecursion Solid ws → AllByRecursion Solid (drop 1 ws)
 fewer [] s = tt
 fewer (w ∷ ws) s = s.1
 
-file-in : (ws : List (List ℕ)) (f : List ℕ) → All Solid ws → word_in ws ≡ Ok f → File f
+file-in : (ws : List (List ℕ)) (f : List ℕ) → AllByRecursion Solid ws → word_in ws ≡ Ok f → File f
 file-in [] f s p = not_err p
 file-in (w ∷ ws) f s p = subst File (same_ok p) (s.0.one, s.0.text)
 
@@ -83,7 +83,7 @@ Sent : Option (List ℕ) → Type 0
 Sent None = Unit {0}
 Sent (Some ds) = Bytes ds
 
-sent : (ws : List (List ℕ)) (o : Option (List ℕ)) → All Solid ws → hex_in ws ≡ Ok o → Sent o
+sent : (ws : List (List ℕ)) (o : Option (List ℕ)) → AllByRecursion Solid ws → hex_in ws ≡ Ok o → Sent o
 unfolding Sent
 sent [] o s p = subst Sent (same_ok p) tt
 sent (w ∷ ws) o s p = walk (hex_fault w) refl p
@@ -115,7 +115,7 @@ unfolding Sent
 proper-write d s None p q r = (p, q)
 proper-write d s (Some ds) p q r = (p, q, r)
 
-by-write : (ws : List (List ℕ)) (a : Asked) → All Solid ws → call_in command.Write ws ≡ Ok a → ProperCall a
+by-write : (ws : List (List ℕ)) (a : Asked) → AllByRecursion Solid ws → call_in command.Write ws ≡ Ok a → ProperCall a
 by-write ws a s p =
     let ws₁ = drop 1 ws in
     let ws₂ = drop 1 ws₁ in
@@ -125,7 +125,7 @@ by-write ws a s p =
     (λ o go z. by-then (end_in (drop 1 ws₂)) (λ _. Ok (Write d t o)) z
     (λ _ _ y. subst ProperCall (same_ok y) (proper-write d t o (number-in ws d is) (number-in ws₁ t so) (sent ws₂ o (fewer ws₁ (fewer ws s)) go))))))
 
-by-stream : (ws : List (List ℕ)) (a : Asked) → All Solid ws → call_in command.Stream ws ≡ Ok a → ProperCall a
+by-stream : (ws : List (List ℕ)) (a : Asked) → AllByRecursion Solid ws → call_in command.Stream ws ≡ Ok a → ProperCall a
 by-stream ws a s p =
     let ws₁ = drop 1 ws in
     let ws₂ = drop 1 ws₁ in
@@ -135,14 +135,14 @@ by-stream ws a s p =
     (λ f go z. by-then (end_in (drop 1 ws₂)) (λ _. Ok (Stream x y f)) z
     (λ _ _ e. subst ProperCall (same_ok e) (number-in ws x is, number-in ws₁ y so, file-in ws₂ f (fewer ws₁ (fewer ws s)) go)))))
 
-by-take : (ws : List (List ℕ)) (a : Asked) → All Solid ws → call_in command.Take ws ≡ Ok a → ProperCall a
+by-take : (ws : List (List ℕ)) (a : Asked) → AllByRecursion Solid ws → call_in command.Take ws ≡ Ok a → ProperCall a
 by-take ws a s p =
     let ws₁ = drop 1 ws in
     by-then (number_in ws) (λ d. then (word_in ws₁) (λ f. then (end_in (drop 1 ws₁)) (λ _. Ok (Take d f)))) p
     (λ d is q. by-then (word_in ws₁) (λ f. then (end_in (drop 1 ws₁)) (λ _. Ok (Take d f))) q
     (λ f so r. by-then (end_in (drop 1 ws₁)) (λ _. Ok (Take d f)) r (λ _ _ e. subst ProperCall (same_ok e) (number-in ws d is, file-in ws₁ f (fewer ws s) so))))
 
-pub gained : (c : Command) (ws : List (List ℕ)) (a : Asked) → All Solid ws → call_in c ws ≡ Ok a → ProperCall a
+pub gained : (c : Command) (ws : List (List ℕ)) (a : Asked) → AllByRecursion Solid ws → call_in c ws ≡ Ok a → ProperCall a
 gained command.Format ws a s p = by-format ws a p
 gained command.Write ws a s p = by-write ws a s p
 gained command.Clear ws a s p = by_two Clear (λ n m h. h) ws a p

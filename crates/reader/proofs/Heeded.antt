@@ -1,6 +1,6 @@
 -- A line that is understood is one that a line can be. Assumes nothing.
 use Rattle.std.proofs.Common.{◌≡◌, ℕ, Bool, true, false, cond, eqb, List, [], ◌∷◌, drop, Some, None, Ok, Err, Option, Result, refl, ap, ◌∙◌, subst, arith}
-use Rattle.std.specs.List.{AllByRecursion as All}
+use Rattle.std.specs.List.{AllByRecursion}
 use Rattle.words.proofs.Parts.{Solid}
 use Rattle.words.specs.Bytes.{every, is_bit}
 use Rattle.words.specs.Words.{first_of}
@@ -48,7 +48,7 @@ bits-of (w ∷ ws) bs e = walk (bits_in w) refl e
     walk None is p = not_err p
     walk (Some x) is p = bits_in_lem w bs (is ∙ ap Some (same_ok p))
 
-call-of : (ws : List (List ℕ)) (a : Asked) → All Solid ws → call_of ws ≡ Ok a → ProperCall a
+call-of : (ws : List (List ℕ)) (a : Asked) → AllByRecursion Solid ws → call_of ws ≡ Ok a → ProperCall a
 call-of [] a s p = not_err p
 call-of (w ∷ ws) a s p = walk (command_of w) p
   where
@@ -56,19 +56,19 @@ call-of (w ∷ ws) a s p = walk (command_of w) p
     walk None q = not_err q
     walk (Some c) q = by-formed c (call_in c ws) q (gained c ws a s.1)
 
-stop-in : (bits : List ℕ) (ws : List (List ℕ)) (l : Said) → every is_bit bits ≡ true → All Solid ws → stop_in bits ws ≡ Ok l → ProperSaid l
+stop-in : (bits : List ℕ) (ws : List (List ℕ)) (l : Said) → every is_bit bits ≡ true → AllByRecursion Solid ws → stop_in bits ws ≡ Ok l → ProperSaid l
 stop-in bits [] l b s p = subst ProperSaid (same_ok p) b
 stop-in bits (w ∷ ws) l b s p =
     by-then (formed command.Power (number_in (w ∷ ws))) (λ k. then (call_of ws) (λ a. Ok (Cut bits k a))) p
     (λ k is q. by-then (call_of ws) (λ a. Ok (Cut bits k a)) q
     (λ a so r. subst ProperSaid (same_ok r) (b, by-formed command.Power (number_in (w ∷ ws)) is (number-in (w ∷ ws) k), call-of ws a s.1 so)))
 
-power_in_lem : (ws : List (List ℕ)) (l : Said) → All Solid ws → power_in ws ≡ Ok l → ProperSaid l
+power_in_lem : (ws : List (List ℕ)) (l : Said) → AllByRecursion Solid ws → power_in ws ≡ Ok l → ProperSaid l
 power_in_lem ws l s p =
     by-then (formed command.Power (bits_of ws)) (λ bits. stop_in bits (drop 1 ws)) p
     (λ bits is q. stop-in bits (drop 1 ws) l (by-formed command.Power (bits_of ws) is (bits-of ws bits)) (fewer ws s) q)
 
-said-by : (o : Option Command) (ws : List (List ℕ)) (l : Said) → All Solid ws → said_by o ws ≡ Ok l → ProperSaid l
+said-by : (o : Option Command) (ws : List (List ℕ)) (l : Said) → AllByRecursion Solid ws → said_by o ws ≡ Ok l → ProperSaid l
 said-by None ws l s p = not_err p
 said-by (Some c) ws l s p =
     by_cond (is_power c) (power_in ws) (then (formed c (call_in c ws)) (λ a. Ok (Plain a))) p (λ _ q. power_in_lem ws l s q)
@@ -80,7 +80,7 @@ not-understood p q = let z : ◌≡◌ {A = ℕ} 0 1 = cc in absurd (omega arith
 not-skipped : {X : Type 0} {l : Said} → Skipped ≡ Understood l → X
 not-skipped p = let z : ◌≡◌ {A = ℕ} 0 1 = cc in absurd (omega arith)
 
-pub heard-by : (ws : List (List ℕ)) (l : Said) → All Solid ws → heard_by (first_of ws) ws ≡ Understood l → ProperSaid l
+pub heard-by : (ws : List (List ℕ)) (l : Said) → AllByRecursion Solid ws → heard_by (first_of ws) ws ≡ Understood l → ProperSaid l
 heard-by [] l s p = not-skipped p
 heard-by (w ∷ ws) l s p = walk (said_by (command_of w) ws) refl p
   where

@@ -1,6 +1,6 @@
 -- Each word of a line that is written out is one, and is text. Assumes nothing.
 use Rattle.std.proofs.Common.{◌≡◌, ℕ, zero, suc, ◌<◌, Bool, true, ltb, List, [], ◌∷◌, length, Some, None, IsUtf8, IsAscii, decimal, refl, arith}
-use Rattle.std.specs.List.{AllByRecursion as All}
+use Rattle.std.specs.List.{AllByRecursion}
 use Rattle.std.proofs.lemmas.Fmt.{IsAscii-decimal}
 use Rattle.std.proofs.lemmas.Str.{IsUtf8-append, IsUtf8-from_ascii, IsUtf8-nil}
 use Rattle.std.proofs.lemmas.Bool.{and_parts, ltb-true}
@@ -46,7 +46,7 @@ bits : (b : List ℕ) → every is_bit b ≡ true → Solid (bits_text b)
 bits [] e = known (45 ∷ []) refl refl
 bits (x ∷ b) e = of-kind is_bit (λ b e. grind (arith, nat_tests)) (λ b e. grind (arith, nat_tests)) (x ∷ b) (omega arith) e
 
-pub call-solid : (a : Asked) → ProperCall a → All Solid (words_of a)
+pub call-solid : (a : Asked) → ProperCall a → AllByRecursion Solid (words_of a)
 call-solid (Format n v) p = (known _ refl refl, (number n p.0, (number v p.1, tt)))
 call-solid (Write d s None) p = (known _ refl refl, (number d p.0, (number s p.1, tt)))
 call-solid (Write d s (Some ds)) p = (known _ refl refl, (number d p.0, (number s p.1, (bytes ds p.2, tt))))
@@ -66,16 +66,16 @@ call-solid (Take d f) p = (known _ refl refl, (number d p.0, (file f p.1, tt)))
 call-solid Show p = (known _ refl refl, tt)
 call-solid Listing p = (known _ refl refl, tt)
 
-pub line-solid : (l : Said) → ProperSaid l → All Solid (line_words l)
+pub line-solid : (l : Said) → ProperSaid l → AllByRecursion Solid (line_words l)
 line-solid (Plain a) p = call-solid a p
 line-solid (Power b) p = (known _ refl refl, (bits b p, tt))
 line-solid (Cut b k a) p = (known _ refl refl, (bits b p.0, (number k p.1, call-solid a p.2)))
 
-pub spaced-text : (ws : List (List ℕ)) → All Solid ws → IsUtf8 (spaced ws)
+pub spaced-text : (ws : List (List ℕ)) → AllByRecursion Solid ws → IsUtf8 (spaced ws)
 spaced-text [] h = IsUtf8-nil
 spaced-text (w ∷ []) h = h.0.text
 spaced-text (w ∷ v ∷ ws) h = IsUtf8-append w (32 ∷ spaced (v ∷ ws)) h.0.text (IsUtf8-append (32 ∷ []) (spaced (v ∷ ws)) (IsUtf8-from_ascii (32 ∷ []) (low-ascii (32 ∷ []) refl)) (spaced-text (v ∷ ws) h.1))
 
-pub all_words : (ws : List (List ℕ)) → All Solid ws → All (λ w. is_word w ≡ true) ws
+pub all_words : (ws : List (List ℕ)) → AllByRecursion Solid ws → AllByRecursion (λ w. is_word w ≡ true) ws
 all_words [] h = tt
 all_words (w ∷ ws) h = (h.0.one, all_words ws h.1)

@@ -1,6 +1,6 @@
 -- The words of a text are words, and text themselves. Assumes nothing.
 use Rattle.std.proofs.Common.{◌≡◌, ℕ, zero, suc, ◌-◌, ◌<◌, ◌≤◌, Bool, true, false, List, [], ◌∷◌, length, take, drop, IsUtf8, sym, refl, subst, ⊎_elim, one-add, arith, length-drop}
-use Rattle.std.specs.List.{prefix_len, AllByRecursion as All}
+use Rattle.std.specs.List.{prefix_len, AllByRecursion}
 use Rattle.std.proofs.lemmas.List.{length-take-le}
 use Rattle.std.proofs.lemmas.List.Sums.{prefix_len-le-length}
 use Rattle.std.proofs.lemmas.Bool.{cases_lt}
@@ -28,7 +28,7 @@ word-is : (w : List ℕ) → 0 < length w → every (is_kind SolidKind) w ≡ tr
 word-is [] h e = absurd (omega arith)
 word-is (b ∷ w) h e = e
 
-module _ (bs : List ℕ) (u : IsUtf8 bs) (n : ℕ) (few : length bs ≤ suc n) (again : (r : List ℕ) → length r ≤ n → IsUtf8 r → All Solid (words r)) where
+module _ (bs : List ℕ) (u : IsUtf8 bs) (n : ℕ) (few : length bs ≤ suc n) (again : (r : List ℕ) → length r ≤ n → IsUtf8 r → AllByRecursion Solid (words r)) where
   left : List ℕ
   left = drop (prefix_len (is_kind Blank) bs) bs
 
@@ -50,7 +50,7 @@ module _ (bs : List ℕ) (u : IsUtf8 bs) (n : ℕ) (few : length bs ≤ suc n) (
   unfolding left
   shorter = omega (arith, length-drop (prefix_len (is_kind Blank) bs) bs)
 
-  some : 0 < length word → All Solid (words bs)
+  some : 0 < length word → AllByRecursion Solid (words bs)
   unfolding word rest
   some h =
       let m : ℕ = prefix_len (is_kind SolidKind) left in
@@ -58,18 +58,18 @@ module _ (bs : List ℕ) (u : IsUtf8 bs) (n : ℕ) (few : length bs ≤ suc n) (
       let long : length word ≡ m = length-take-le m left le in
       let less : length rest ≡ length left - m = length-drop m left in
       let within : length left ≤ length bs = shorter in
-      subst (All Solid) (sym (some_word cut h)) (
+      subst (AllByRecursion Solid) (sym (some_word cut h)) (
         record { one = word-is word h (every-taken (is_kind SolidKind) left); text = IsUtf8-take left m left-text (before-blank left) },
         again rest (omega arith) (IsUtf8-drop left m left-text (before-blank left)),
       )
 
-  pub parts_more : All Solid (words bs)
-  parts_more = ⊎_elim some (λ h. subst (All Solid) (sym (no_word cut (omega arith)).0) tt) (cases_lt 0 (length word))
+  pub parts_more : AllByRecursion Solid (words bs)
+  parts_more = ⊎_elim some (λ h. subst (AllByRecursion Solid) (sym (no_word cut (omega arith)).0) tt) (cases_lt 0 (length word))
 
-parts-of : (n : ℕ) (bs : List ℕ) → length bs ≤ n → IsUtf8 bs → All Solid (words bs)
+parts-of : (n : ℕ) (bs : List ℕ) → length bs ≤ n → IsUtf8 bs → AllByRecursion Solid (words bs)
 parts-of zero [] h u = tt
 parts-of zero (b ∷ bs) h u = absurd (omega arith)
 parts-of (suc n) bs h u = parts_more bs u n h (parts-of n)
 
-pub parts : (bs : List ℕ) → IsUtf8 bs → All Solid (words bs)
+pub parts : (bs : List ℕ) → IsUtf8 bs → AllByRecursion Solid (words bs)
 parts bs u = parts-of (length bs) bs (omega arith) u

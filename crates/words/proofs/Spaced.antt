@@ -1,6 +1,6 @@
 -- Words that were written with one blank between each and the next, read again. Assumes nothing.
 use Rattle.std.proofs.Common.{◌≡◌, ℕ, true, not, List, [], ◌∷◌, ◌++◌, sym, refl, ap, ◌∙◌, append_assoc, append-nil, arith}
-use Rattle.std.specs.List.{AllByRecursion as All}
+use Rattle.std.specs.List.{AllByRecursion}
 use Rattle.std.proofs.lemmas.Bool.{and_parts, not-true, cond-false}
 use Rattle.words.specs.declared.byte.Kind.TheVariants.{Solid}
 use Rattle.words.specs.Bytes.{blank, every, is_kind, is_word}
@@ -21,7 +21,7 @@ last_word : (w : List ℕ) → is_word w ≡ true → words w ≡ w ∷ []
 last_word [] e = absurd (grind arith)
 last_word (b ∷ w) e = ap words (sym (append-nil (b ∷ w))) ∙ after-solid [] (b ∷ w) [] e
 
-pub words-spaced : (ws : List (List ℕ)) → All (λ w. is_word w ≡ true) ws → words (spaced ws) ≡ ws
+pub words-spaced : (ws : List (List ℕ)) → AllByRecursion (λ w. is_word w ≡ true) ws → words (spaced ws) ≡ ws
 words-spaced [] h = refl
 words-spaced (w ∷ []) h = last_word w h.0
 words-spaced (w ∷ v ∷ ws) h = first_word w (spaced (v ∷ ws)) h.0 ∙ ap (λ l. w ∷ l) (words-spaced (v ∷ ws) h.1)
