@@ -3,7 +3,7 @@
 # The program has to be built; `./check` does that first.
 set -u
 cd "$(dirname "$0")/.." || exit 1
-rehearse=$PWD/target/bin/rehearse
+rehearse=$PWD/crates/rehearse/out/rehearse
 scratch=$(mktemp -d) || exit 1
 trap 'rm -rf "$scratch"' EXIT
 
