@@ -1,5 +1,5 @@
 -- Lists of blocks parted by their births, and the table of what each block of the device is for. Assumes nothing.
-use Rattle.std.specs.Prelude.{ℕ, ◌-◌, Bool, true, false, not, ltb, List, [], ◌∷◌, ◌++◌, length, replicate, filter, ◌==◌, nat_le, nat_lt, slice_index_or, slice_set}
+use Rattle.std.specs.Prelude.{ℕ, ◌-◌, Bool, true, false, not, List, [], ◌∷◌, ◌++◌, length, replicate, filter, ◌==◌, nat_le, nat_lt, slice_index_or, slice_set}
 use Rattle.std.specs.List.{prefix_len}
 use Rattle.rules.specs.Limits.{first_block}
 use Rattle.model.specs.Sums.{bit, sum}
@@ -12,7 +12,7 @@ use Rattle.model.specs.declared.types.Use.TheVariants.{Reserved, Free, Used, Fre
 -- THE RULE by which blocks become free. A list has blocks that some hold, or a disk's present, no longer shows, and the moment is that of
 -- the hold before: what was born after it that hold can't show, so it becomes free; what was born up to it is only gone.
 abbrev pub frees : (moment : ℕ) → List Ptr → List Ptr
-frees m ps = filter (λ p. ltb m p.birth) ps
+frees m ps = filter (λ p. nat_lt m p.birth) ps
 
 abbrev pub keeps : (moment : ℕ) → List Ptr → List Ptr
 keeps m ps = filter (λ p. not (nat_lt m p.birth)) ps
