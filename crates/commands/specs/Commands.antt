@@ -1,5 +1,6 @@
 -- The commands: the word that names each, and its form for people. Assumes nothing.
-use Rattle.std.specs.Prelude.{ℕ, cond, List, [], ◌∷◌, Some, None, codes, Option}
+use Rattle.std.specs.Prelude.{ℕ, List, [], ◌∷◌, codes, Option}
+use Rattle.std.specs.List.{find}
 use Rattle.std.specs.Str.{bytes_eq}
 use Rattle.commands.specs.declared.command.Command.{Command}
 use Rattle.commands.specs.declared.command.Command.TheVariants.{Format, Write, Clear, Hold, Release, Would, Copy, New, Drop, Read, ReadHold, Free, Sync, Stream, Take, Power, Show, Listing}
@@ -48,9 +49,8 @@ abbrev pub commands : List Command
 commands = Format ∷ Write ∷ Clear ∷ Hold ∷ Release ∷ Would ∷ Copy ∷ New ∷ Drop ∷ Read ∷ ReadHold ∷ Free ∷ Sync ∷ Stream ∷ Take ∷ Power ∷ Show ∷ Listing ∷ []
 
 -- The first of these that the word names.
-abbrev pub command_in : List ℕ → List Command → Option Command
-command_in w [] = None
-command_in w (c ∷ cs) = cond (bytes_eq (word_of c) w) (Some c) (command_in w cs)
+abbrev pub named_in : List Command → List ℕ → Option Command
+named_in cs w = find (λ c. bytes_eq (word_of c) w) cs
 
 abbrev pub command_of : List ℕ → Option Command
-command_of w = command_in w commands
+command_of w = named_in commands w

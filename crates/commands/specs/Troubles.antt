@@ -4,17 +4,17 @@ use Rattle.commands.specs.Commands.{usage_of}
 use Rattle.commands.specs.declared.trouble.Trouble.{Trouble}
 use Rattle.commands.specs.declared.trouble.Trouble.TheVariants.{TooLong, NotText, NoCommand, Form}
 use Rattle.commands.specs.declared.trouble.Why.{Why}
-use Rattle.commands.specs.declared.trouble.Why.TheVariants.{TooFew, TooMany, NoNumber, TooLarge, ManyDigits, NoDigit, OddDigits, NoBits, Nested}
+use Rattle.commands.specs.declared.trouble.Why.TheVariants.{TooFew, TooMany, Number, Hex, Bits, Nested}
+use Rattle.words.specs.Numbers.{not_number_text}
+use Rattle.digits.specs.Bits.{not_bits_text}
+use Rattle.digits.specs.HexText.{not_hex_text}
 
 abbrev pub why_text : Why → List ℕ
 why_text TooFew = codes "too few words"
 why_text TooMany = codes "too many words"
-why_text NoNumber = codes "not a number"
-why_text TooLarge = codes "a number of more than 64 bits"
-why_text ManyDigits = codes "more than 8,192 digits"
-why_text NoDigit = codes "not a hexadecimal digit"
-why_text OddDigits = codes "an odd count of digits"
-why_text NoBits = codes "not a text of 0 and 1"
+why_text (Number e) = not_number_text e
+why_text (Hex e) = not_hex_text e
+why_text (Bits e) = not_bits_text
 why_text Nested = codes "a stop within a stop"
 
 abbrev pub trouble_text : Trouble → List ℕ

@@ -1,11 +1,15 @@
 // The commands that a line can begin with.
-ghost use Rattle.std.specs.Prelude.{◌≡◌, Some};
-ghost use Rattle.commands.specs.Commands.{command_in, command_of, usage_of, word_of};
+ghost use Rattle.std.specs.Prelude.{◌≡◌, Some, IfErr};
+ghost use Rattle.std.specs.Result.{result_ok};
+ghost use Rattle.commands.specs.Commands.{command_of, named_in, usage_of, word_of};
+ghost use Rattle.commands.specs.declared.trouble.Trouble.TheVariants.{NoCommand};
 
+use crate::trouble::Trouble;
 use std::fmt;
+use std::str::FromStr;
 
 // Each is named by one word.
-#[derive(Clone, Copy)]
+#[derive(Clone, Copy, PartialEq, Eq, Debug)]
 pub enum Command {
     Format,
     Write,
@@ -50,25 +54,27 @@ const ALL: [Command; 18] = [
 ];
 
 // The first of these that the word names.
-fn find(word: &str, among: &[Command]) -> Option<Command>
-    ensures { result ≡ command_in word.now among.now }
+fn among(commands: &[Command], name: &str) -> Option<Command>
+    ensures { result ≡ named_in commands.now name.now }
 {
-    for command in among {
-        if command.word() == word {
-            return Some(*command);
-        }
+    commands
+        .iter()
+        .copied()
+        .find(|command| command.word() == name)
+}
+
+impl FromStr for Command {
+    type Err = Trouble;
+
+    ghost from_str_gives = { λ name r. (result_ok r ≡ command_of name) × IfErr r (λ e. e ≡ NoCommand) };
+
+    // The command of this name.
+    fn from_str(name: &str) -> Result<Command, Trouble> {
+        among(&ALL, name).ok_or(Trouble::NoCommand)
     }
-    None
 }
 
 impl Command {
-    // The command of this name.
-    pub fn named(word: &str) -> Option<Command>
-        ensures { result ≡ command_of word.now }
-    {
-        find(word, &ALL)
-    }
-
     // The word that names it.
     pub fn word(self) -> &'static str
         ensures { result.now ≡ word_of self }

@@ -1,31 +1,32 @@
 // What can be wrong with a line, and the words for it.
 ghost use Rattle.std.specs.Prelude.{◌≡◌, Some};
 ghost use Rattle.commands.specs.Troubles.{trouble_text, why_text};
+ghost use Rattle.commands.specs.declared.trouble.Why.TheVariants.{Bits, Hex, Number};
 
 use crate::command::Command;
+use digits::bits::NotBits;
+use digits::hex::NotHex;
+use std::error::Error;
 use std::fmt;
+use words::number::NotNumber;
 
 // What is wrong with the words behind a command.
-#[derive(Clone, Copy)]
+#[derive(Clone, Copy, PartialEq, Eq, Debug)]
 pub enum Why {
     TooFew,
     TooMany,
     // A word that should be a decimal number.
-    NoNumber,
-    // A number that passes 64 bits where any below that is meant.
-    TooLarge,
-    // More digits than a block's bytes have.
-    ManyDigits,
-    NoDigit,
-    OddDigits,
-    // A text that has something else than 0 and 1.
-    NoBits,
+    Number(NotNumber),
+    // A word that should be bytes in hexadecimal.
+    Hex(NotHex),
+    // A word that should be a text of 0 and 1.
+    Bits(NotBits),
     // A stop that should cut short a stop.
     Nested,
 }
 
 // Why a line is not understood.
-#[derive(Clone, Copy)]
+#[derive(Clone, Copy, PartialEq, Eq, Debug)]
 pub enum Trouble {
     TooLong,
     NotText,
@@ -33,19 +34,42 @@ pub enum Trouble {
     Form { command: Command, why: Why },
 }
 
-fn words(why: Why) -> &'static str
-    ensures { result.now ≡ why_text why }
-{
-    match why {
-        Why::TooFew => "too few words",
-        Why::TooMany => "too many words",
-        Why::NoNumber => "not a number",
-        Why::TooLarge => "a number of more than 64 bits",
-        Why::ManyDigits => "more than 8,192 digits",
-        Why::NoDigit => "not a hexadecimal digit",
-        Why::OddDigits => "an odd count of digits",
-        Why::NoBits => "not a text of 0 and 1",
-        Why::Nested => "a stop within a stop",
+impl From<NotNumber> for Why {
+    ghost from_gives = { λ e why. why ≡ Number e };
+
+    fn from(e: NotNumber) -> Why {
+        Why::Number(e)
+    }
+}
+
+impl From<NotHex> for Why {
+    ghost from_gives = { λ e why. why ≡ Hex e };
+
+    fn from(e: NotHex) -> Why {
+        Why::Hex(e)
+    }
+}
+
+impl From<NotBits> for Why {
+    ghost from_gives = { λ e why. why ≡ Bits e };
+
+    fn from(e: NotBits) -> Why {
+        Why::Bits(e)
+    }
+}
+
+impl fmt::Display for Why {
+    ghost output = { λ why. Some (why_text why) };
+
+    fn fmt<W: fmt::Write>(&self, f: &mut fmt::Formatter<W>) -> fmt::Result {
+        match self {
+            Why::TooFew => f.write_str("too few words"),
+            Why::TooMany => f.write_str("too many words"),
+            Why::Number(e) => write!(f, "{e}"),
+            Why::Hex(e) => write!(f, "{e}"),
+            Why::Bits(e) => write!(f, "{e}"),
+            Why::Nested => f.write_str("a stop within a stop"),
+        }
     }
 }
 
@@ -58,7 +82,11 @@ impl fmt::Display for Trouble {
             Trouble::TooLong => f.write_str("the line is too long"),
             Trouble::NotText => f.write_str("not UTF-8 text"),
             Trouble::NoCommand => f.write_str("no such command"),
-            Trouble::Form { command, why } => write!(f, "{}: {}", words(*why), command.usage()),
+            Trouble::Form { command, why } => write!(f, "{why}: {}", command.usage()),
         }
     }
 }
+
+impl Error for Why {}
+
+impl Error for Trouble {}

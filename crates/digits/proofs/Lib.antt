@@ -1,4 +1,4 @@
-mod Again
-mod Pairs
-mod Written
-mod Zeros
+pub mod Again
+pub mod Pairs
+pub mod Written
+pub mod Zeros

@@ -1,3 +1,4 @@
 pub mod Bits
 pub mod Hex
+pub mod HexText
 pub mod Shown

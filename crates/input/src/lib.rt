@@ -3,4 +3,4 @@
 #![tactic(auto)]
 
 pub mod buffer;
-pub mod next;
+mod next;

@@ -1,5 +1,5 @@
 -- What a line asks for, as plain lists. Assumes nothing.
-use Rattle.std.specs.Prelude.{ℕ, List, Option}
+use Rattle.std.specs.Prelude.{ℕ, List, Option, Ok, Err, Result}
 use Rattle.std.specs.Option.{option_map}
 use Rattle.digits.specs.Bits.{bit_digits}
 use Rattle.digits.specs.Hex.{hex_digits}
@@ -7,8 +7,6 @@ use Rattle.lines.specs.declared.line.Call.{Call}
 use Rattle.lines.specs.declared.line.Call.TheVariants as code
 use Rattle.lines.specs.declared.line.Line.{Line}
 use Rattle.lines.specs.declared.line.Line.TheVariants as lines
-use Rattle.lines.specs.declared.line.Reading.{Reading}
-use Rattle.lines.specs.declared.line.Reading.TheVariants as readings
 use Rattle.commands.specs.declared.trouble.Trouble.{Trouble}
 
 -- The same calls; bytes are the text of their hexadecimal digits, and a file's name is its bytes.
@@ -37,11 +35,6 @@ pub data Said : Type 0 where
   Power : (bits : List ℕ) → Said
   Cut : (bits : List ℕ) (after : ℕ) → Asked → Said
 
-pub data Heard : Type 0 where
-  Skipped : Heard
-  Understood : Said → Heard
-  Misread : Trouble → Heard
-
 abbrev pub asked : Call → Asked
 asked (code.Format n v) = Format n v
 asked (code.Write d s h) = Write d s (option_map hex_digits h)
@@ -66,7 +59,11 @@ said (lines.Plain c) = Plain (asked c)
 said (lines.Power b) = Power (bit_digits b)
 said (lines.Cut b k c) = Cut (bit_digits b) k (asked c)
 
-abbrev pub heard : Reading → Heard
-heard readings.Skipped = Skipped
-heard (readings.Understood l) = Understood (said l)
-heard (readings.Misread t) = Misread t
+-- An answer, seen as something else.
+abbrev pub mapped_ok : {A B E : Type 0} → (A → B) → Result A E → Result B E
+mapped_ok f (Ok a) = Ok (f a)
+mapped_ok f (Err e) = Err e
+
+-- What reading a line gives: a line, nothing where it is to be skipped, or what is wrong with it.
+abbrev pub heard : Result (Option Line) Trouble → Result (Option Said) Trouble
+heard r = mapped_ok (option_map said) r

@@ -1,5 +1,4 @@
 // What a line asks for. All of it refers to the line's text.
-use commands::trouble::Trouble;
 use digits::bits::Bits;
 use digits::hex::Hex;
 
@@ -73,13 +72,4 @@ pub enum Line<'a> {
         after: u64,
         call: Call<'a>,
     },
-}
-
-// What reading a line gives.
-#[derive(Clone, Copy)]
-pub enum Reading<'a> {
-    // An empty line, or a remark.
-    Skipped,
-    Understood(Line<'a>),
-    Misread(Trouble),
 }

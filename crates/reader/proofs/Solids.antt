@@ -1,6 +1,6 @@
 -- Each word of a line that is written out is one, and is text. Assumes nothing.
 use Rattle.std.proofs.Common.{◌≡◌, ℕ, zero, suc, ◌<◌, Bool, true, ltb, List, [], ◌∷◌, length, Some, None, IsUtf8, IsAscii, decimal, refl, arith}
-use Rattle.std.specs.List.{AllByRecursion}
+use Rattle.std.specs.List.{list_all, AllByRecursion}
 use Rattle.std.proofs.lemmas.Fmt.{IsAscii-decimal}
 use Rattle.std.proofs.lemmas.Str.{IsUtf8-append, IsUtf8-from_ascii, IsUtf8-nil}
 use Rattle.std.proofs.lemmas.Bool.{and_parts, ltb-true}
@@ -8,8 +8,8 @@ use Rattle.std.proofs.lemmas.Bool.Decides.{nat_tests}
 use Rattle.words.proofs.Decimals.{decimal-word, every-weaker, word-from}
 use Rattle.words.proofs.Parts.{Solid}
 use Rattle.digits.specs.Bits.{bits_text}
-use Rattle.words.specs.Bytes.{every, is_bit, is_hex, is_solid, is_word}
-use Rattle.digits.specs.Hex.{hex_fault}
+use Rattle.words.specs.Bytes.{is_bit, is_hex, is_solid, is_word}
+use Rattle.digits.specs.HexText.{hex_fault}
 use Rattle.words.specs.Words.{spaced}
 use Rattle.lines.specs.Lines.{Asked, Said, Format, Write, Clear, Hold, Release, Would, Copy, New, Drop, Read, ReadHold, Free, Sync, Stream, Take, Show, Listing, Plain, Power, Cut}
 use Rattle.lines.specs.Texts.{line_words, words_of}
@@ -18,16 +18,16 @@ use Rattle.reader.specs.Proper.{Number, File, Bytes, ProperCall, ProperSaid}
 abbrev low : ℕ → Bool
 low b = ltb b 128
 
-low-ascii : (bs : List ℕ) → every low bs ≡ true → IsAscii bs
+low-ascii : (bs : List ℕ) → list_all low bs ≡ true → IsAscii bs
 low-ascii [] e i = omega arith
-low-ascii (b ∷ bs) e zero = ltb-true b 128 (and_parts (low b) (every low bs) e).0
-low-ascii (b ∷ bs) e (suc i) = low-ascii bs (and_parts (low b) (every low bs) e).1 i
+low-ascii (b ∷ bs) e zero = ltb-true b 128 (and_parts (low b) (list_all low bs) e).0
+low-ascii (b ∷ bs) e (suc i) = low-ascii bs (and_parts (low b) (list_all low bs) e).1 i
 
 -- of a word that is written out, both are computed
-known : (w : List ℕ) → is_word w ≡ true → every low w ≡ true → Solid w
+known : (w : List ℕ) → is_word w ≡ true → list_all low w ≡ true → Solid w
 known w e l = record { one = e; text = IsUtf8-from_ascii w (low-ascii w l) }
 
-of-kind : (p : ℕ → Bool) → ((b : ℕ) → p b ≡ true → is_solid b ≡ true) → ((b : ℕ) → p b ≡ true → low b ≡ true) → (w : List ℕ) → 0 < length w → every p w ≡ true → Solid w
+of-kind : (p : ℕ → Bool) → ((b : ℕ) → p b ≡ true → is_solid b ≡ true) → ((b : ℕ) → p b ≡ true → low b ≡ true) → (w : List ℕ) → 0 < length w → list_all p w ≡ true → Solid w
 of-kind p f g w some e = known w (word-from p f w some e) (every-weaker p low g w e)
 
 number : (n : ℕ) → Number n → Solid (decimal n)
@@ -39,10 +39,10 @@ file f h = record { one = h.0; text = h.1 }
 bytes : (ds : List ℕ) → Bytes ds → Solid ds
 bytes ds h = of-kind is_hex (λ b e. grind (arith, nat_tests)) (λ b e. grind (arith, nat_tests)) ds h.0 (fine ds h.1)
   where
-    fine : (l : List ℕ) → hex_fault l ≡ None → every is_hex l ≡ true
+    fine : (l : List ℕ) → hex_fault l ≡ None → list_all is_hex l ≡ true
     fine l e = grind (arith, nat_tests)
 
-bits : (b : List ℕ) → every is_bit b ≡ true → Solid (bits_text b)
+bits : (b : List ℕ) → list_all is_bit b ≡ true → Solid (bits_text b)
 bits [] e = known (45 ∷ []) refl refl
 bits (x ∷ b) e = of-kind is_bit (λ b e. grind (arith, nat_tests)) (λ b e. grind (arith, nat_tests)) (x ∷ b) (omega arith) e
 

@@ -1,7 +1,8 @@
 -- The values that a line can have. Assumes nothing.
 use Rattle.std.specs.Prelude.{◌≡◌, ℕ, ◌^◌, ◌<◌, ◌≤◌, true, List, length, Some, None, IsUtf8}
-use Rattle.words.specs.Bytes.{every, is_bit, is_word}
-use Rattle.digits.specs.Hex.{hex_fault}
+use Rattle.std.specs.List.{list_all}
+use Rattle.words.specs.Bytes.{is_bit, is_word}
+use Rattle.digits.specs.HexText.{hex_fault}
 use Rattle.lines.specs.Lines.{Asked, Said, Format, Write, Clear, Hold, Release, Would, Copy, New, Drop, Read, ReadHold, Free, Sync, Stream, Take, Show, Listing, Plain, Power, Cut}
 use Rattle.lines.specs.Texts.{written}
 use Rattle.reader.specs.Reads.{longest}
@@ -39,8 +40,8 @@ ProperCall Listing = Unit {0}
 
 abbrev pub ProperSaid : Said → Type 0
 ProperSaid (Plain a) = ProperCall a
-ProperSaid (Power b) = every is_bit b ≡ true
-ProperSaid (Cut b k a) = (every is_bit b ≡ true) × Number k × ProperCall a
+ProperSaid (Power b) = list_all is_bit b ≡ true
+ProperSaid (Cut b k a) = (list_all is_bit b ≡ true) × Number k × ProperCall a
 
 -- And its text is no longer than a line may be.
 abbrev pub Proper : Said → Type 0

@@ -8,8 +8,8 @@ use Rattle.commands.specs.declared.trouble.Why.{Why}
 use Rattle.commands.specs.declared.trouble.Why.TheVariants.{Nested}
 use Rattle.commands.specs.declared.trouble.Trouble.{Trouble}
 use Rattle.commands.specs.declared.trouble.Trouble.TheVariants.{TooLong, NotText, NoCommand, Form}
-use Rattle.lines.specs.Lines.{Asked, Said, Heard, Format, Write, Clear, Hold, Release, Would, Copy, New, Drop, Read, ReadHold, Free, Sync, Stream, Take, Show, Listing, Plain, Power, Cut, Skipped, Understood, Misread}
-use Rattle.reader.specs.Args.{then, word_in, number_in, exact_in, hex_in, bits_of, end_in, one_in, two_in}
+use Rattle.lines.specs.Lines.{Asked, Said, Format, Write, Clear, Hold, Release, Would, Copy, New, Drop, Read, ReadHold, Free, Sync, Stream, Take, Show, Listing, Plain, Power, Cut, mapped_ok}
+use Rattle.reader.specs.Args.{then, word_in, number_in, exact_in, hex_in, bits_of, end_in}
 
 -- The bits of a stop are the longest part of any line: there are never 2,097,152 sectors that wait.
 abbrev pub longest : ℕ
@@ -36,27 +36,50 @@ is_power command.Show = false
 is_power command.Listing = false
 
 -- What the words behind a command ask for.
+abbrev pub asked_in : Command → List (List ℕ) → Result Asked Why
+asked_in command.Format ws = then (number_in ws) (λ n. then (exact_in (drop 1 ws)) (λ v. Ok (Format n v)))
+asked_in command.Write ws = then (number_in ws) (λ d. then (number_in (drop 1 ws)) (λ s. then (hex_in (drop 2 ws)) (λ ds. Ok (Write d s ds))))
+asked_in command.Clear ws = then (number_in ws) (λ d. then (number_in (drop 1 ws)) (λ s. Ok (Clear d s)))
+asked_in command.Hold ws = then (number_in ws) (λ d. Ok (Hold d))
+asked_in command.Release ws = then (number_in ws) (λ h. Ok (Release h))
+asked_in command.Would ws = then (number_in ws) (λ h. Ok (Would h))
+asked_in command.Copy ws = then (number_in ws) (λ h. Ok (Copy h))
+asked_in command.New ws = Ok New
+asked_in command.Drop ws = then (number_in ws) (λ d. Ok (Drop d))
+asked_in command.Read ws = then (number_in ws) (λ d. then (number_in (drop 1 ws)) (λ s. Ok (Read d s)))
+asked_in command.ReadHold ws = then (number_in ws) (λ h. then (number_in (drop 1 ws)) (λ s. Ok (ReadHold h s)))
+asked_in command.Free ws = Ok Free
+asked_in command.Sync ws = Ok Sync
+asked_in command.Stream ws = then (number_in ws) (λ a. then (number_in (drop 1 ws)) (λ b. then (word_in (drop 2 ws)) (λ f. Ok (Stream a b f))))
+asked_in command.Take ws = then (number_in ws) (λ d. then (word_in (drop 1 ws)) (λ f. Ok (Take d f)))
+asked_in command.Power ws = Err Nested
+asked_in command.Show ws = Ok Show
+asked_in command.Listing ws = Ok Listing
+
+-- How many words a command has behind it, at the most.
+abbrev pub most_words : Command → ℕ
+most_words command.Format = 2
+most_words command.Write = 3
+most_words command.Clear = 2
+most_words command.Hold = 1
+most_words command.Release = 1
+most_words command.Would = 1
+most_words command.Copy = 1
+most_words command.New = 0
+most_words command.Drop = 1
+most_words command.Read = 2
+most_words command.ReadHold = 2
+most_words command.Free = 0
+most_words command.Sync = 0
+most_words command.Stream = 3
+most_words command.Take = 2
+most_words command.Power = 0
+most_words command.Show = 0
+most_words command.Listing = 0
+
+-- A call: what the words ask for, and nothing behind them.
 abbrev pub call_in : Command → List (List ℕ) → Result Asked Why
-call_in command.Format ws = then (number_in ws) (λ n. then (exact_in (drop 1 ws)) (λ v. then (end_in (drop 1 (drop 1 ws))) (λ _. Ok (Format n v))))
-call_in command.Write ws =
-    then (number_in ws) (λ d. then (number_in (drop 1 ws)) (λ s. then (hex_in (drop 1 (drop 1 ws))) (λ ds. then (end_in (drop 1 (drop 1 (drop 1 ws)))) (λ _. Ok (Write d s ds)))))
-call_in command.Clear ws = then (two_in ws) (λ p. Ok (Clear p.0 p.1))
-call_in command.Hold ws = then (one_in ws) (λ d. Ok (Hold d))
-call_in command.Release ws = then (one_in ws) (λ h. Ok (Release h))
-call_in command.Would ws = then (one_in ws) (λ h. Ok (Would h))
-call_in command.Copy ws = then (one_in ws) (λ h. Ok (Copy h))
-call_in command.New ws = then (end_in ws) (λ _. Ok New)
-call_in command.Drop ws = then (one_in ws) (λ d. Ok (Drop d))
-call_in command.Read ws = then (two_in ws) (λ p. Ok (Read p.0 p.1))
-call_in command.ReadHold ws = then (two_in ws) (λ p. Ok (ReadHold p.0 p.1))
-call_in command.Free ws = then (end_in ws) (λ _. Ok Free)
-call_in command.Sync ws = then (end_in ws) (λ _. Ok Sync)
-call_in command.Stream ws =
-    then (number_in ws) (λ a. then (number_in (drop 1 ws)) (λ b. then (word_in (drop 1 (drop 1 ws))) (λ f. then (end_in (drop 1 (drop 1 (drop 1 ws)))) (λ _. Ok (Stream a b f)))))
-call_in command.Take ws = then (number_in ws) (λ d. then (word_in (drop 1 ws)) (λ f. then (end_in (drop 1 (drop 1 ws))) (λ _. Ok (Take d f))))
-call_in command.Power ws = Err Nested
-call_in command.Show ws = then (end_in ws) (λ _. Ok Show)
-call_in command.Listing ws = then (end_in ws) (λ _. Ok Listing)
+call_in c ws = then (asked_in c ws) (λ a. then (end_in (drop (most_words c) ws)) (λ _. Ok a))
 
 -- What is wrong is told with the command that it is wrong for.
 abbrev pub formed : {A : Type 0} → Command → Result A Why → Result A Trouble
@@ -91,16 +114,12 @@ abbrev pub said_by : Option Command → List (List ℕ) → Result Said Trouble
 said_by None ws = Err NoCommand
 said_by (Some c) ws = said_as c ws
 
-abbrev pub outcome : Result Said Trouble → Heard
-outcome (Ok l) = Understood l
-outcome (Err t) = Misread t
-
 -- What the words of a line say that is no remark; nothing where there are none.
-abbrev pub heard_by : Option (List ℕ) → List (List ℕ) → Heard
-heard_by None ws = Skipped
-heard_by (Some w) ws = outcome (said_by (command_of w) (drop 1 ws))
+abbrev pub heard_by : Option (List ℕ) → List (List ℕ) → Result (Option Said) Trouble
+heard_by None ws = Ok None
+heard_by (Some w) ws = mapped_ok Some (said_by (command_of w) (drop 1 ws))
 
 -- A line; t says whether it is text, which is UTF-8. A remark is skipped, whatever it is; then one that is longer than any line has to
 -- be is not looked at.
-abbrev pub reading : Bool → List ℕ → Heard
-reading t bs = cond (remark (words bs)) Skipped (cond (nat_lt longest (length bs)) (Misread TooLong) (cond t (heard_by (first_of (words bs)) (words bs)) (Misread NotText)))
+abbrev pub reading : Bool → List ℕ → Result (Option Said) Trouble
+reading t bs = cond (remark (words bs)) (Ok None) (cond (nat_lt longest (length bs)) (Err TooLong) (cond t (heard_by (first_of (words bs)) (words bs)) (Err NotText)))

@@ -2,104 +2,59 @@
 ghost use Rattle.std.specs.Prelude.{◌≡◌, drop};
 ghost use Rattle.std.specs.Option.{option_map};
 ghost use Rattle.words.specs.Left.{left};
+ghost use Rattle.words.specs.Numbers.{number_of};
 ghost use Rattle.digits.specs.Bits.{bit_digits};
 ghost use Rattle.digits.specs.Hex.{hex_digits};
-ghost use Rattle.reader.specs.Args.{bits_of, end_in, exact_in, hex_in, mapped_ok, number_in, one_in, two_in, word_in};
+ghost use Rattle.lines.specs.Lines.{mapped_ok};
+ghost use Rattle.reader.specs.Args.{bits_at, capped, end_in, hex_at, word_in};
 
 use commands::trouble::Why;
 use digits::bits::Bits;
-use digits::hex::{Hex, NotHex};
+use digits::hex::Hex;
 use words::cursor::Words;
-use words::number::Number;
+use words::number::{NotNumber, number};
 
+// The next word.
 pub(crate) fn word<'a>(args: &mut Words<'a>) -> Result<&'a str, Why>
     ensures value { mapped_ok (λ x. x.now) result ≡ word_in (left args.old) }
     ensures rest { left args.new ≡ drop 1 (left args.old) }
 {
-    match args.next() {
-        Some(word) => Ok(word),
-        None => Err(Why::TooFew),
-    }
+    args.next().ok_or(Why::TooFew)
 }
 
-// The next word, as a number that names something, or counts.
-pub(crate) fn number(args: &mut Words<'_>) -> Result<u64, Why>
-    ensures value { result ≡ number_in (left args.old) }
-    ensures rest { left args.new ≡ drop 1 (left args.old) }
+// A word as a number that names something, or counts.
+pub(crate) fn capped(word: &str) -> Result<u64, Why>
+    ensures { result ≡ capped (number_of word.now) }
 {
-    match Number::of(word(args)?) {
-        Number::Fits(n) => Ok(n),
-        Number::TooLarge => Ok(u64::MAX),
-        Number::NoNumber => Err(Why::NoNumber),
+    match number(word) {
+        Err(NotNumber::TooLarge) => Ok(u64::MAX),
+        read => Ok(read?),
     }
 }
 
-// The next word, as a number below 2^64.
-pub(crate) fn exact(args: &mut Words<'_>) -> Result<u64, Why>
-    ensures value { result ≡ exact_in (left args.old) }
-    ensures rest { left args.new ≡ drop 1 (left args.old) }
+// A word as bytes in hexadecimal, if there is one.
+pub(crate) fn hex<'a>(word: Option<&'a str>) -> Result<Option<Hex<'a>>, Why>
+    ensures { mapped_ok (option_map hex_digits) result ≡ hex_at (option_map (λ x. x.now) word.entry) }
 {
-    match Number::of(word(args)?) {
-        Number::Fits(n) => Ok(n),
-        Number::TooLarge => Err(Why::TooLarge),
-        Number::NoNumber => Err(Why::NoNumber),
+    match word {
+        Some(word) => Ok(Some(Hex::try_from(word)?)),
+        None => Ok(None),
     }
 }
 
+// A word as bits; none where there is no word.
+pub(crate) fn bits<'a>(word: Option<&'a str>) -> Result<Bits<'a>, Why>
+    ensures { mapped_ok bit_digits result ≡ bits_at (option_map (λ x. x.now) word.entry) }
+{
+    Ok(Bits::try_from(word.unwrap_or(""))?)
+}
+
+// Nothing is left.
 pub(crate) fn end(mut args: Words<'_>) -> Result<(), Why>
     ensures { result ≡ end_in (left args.entry) }
 {
     match args.next() {
         None => Ok(()),
         Some(_) => Err(Why::TooMany),
-    }
-}
-
-// A number, and nothing behind it.
-pub(crate) fn one(mut args: Words<'_>) -> Result<u64, Why>
-    ensures { result ≡ one_in (left args.entry) }
-{
-    let n = number(&mut args)?;
-    end(args)?;
-    Ok(n)
-}
-
-// Two numbers, and nothing behind them.
-pub(crate) fn two(mut args: Words<'_>) -> Result<(u64, u64), Why>
-    ensures { result ≡ two_in (left args.entry) }
-{
-    let n = number(&mut args)?;
-    let m = one(args)?;
-    Ok((n, m))
-}
-
-// The next word, as bytes in hexadecimal, if there is one.
-pub(crate) fn hex<'a>(args: &mut Words<'a>) -> Result<Option<Hex<'a>>, Why>
-    ensures value { mapped_ok (option_map hex_digits) result ≡ hex_in (left args.old) }
-    ensures rest { left args.new ≡ drop 1 (left args.old) }
-{
-    let Some(word) = args.next() else {
-        return Ok(None);
-    };
-    match Hex::of(word) {
-        Ok(hex) => Ok(Some(hex)),
-        Err(NotHex::TooMany) => Err(Why::ManyDigits),
-        Err(NotHex::NoDigit) => Err(Why::NoDigit),
-        Err(NotHex::Odd) => Err(Why::OddDigits),
-    }
-}
-
-// The next word, as bits; none where there is no word.
-pub(crate) fn bits<'a>(args: &mut Words<'a>) -> Result<Bits<'a>, Why>
-    ensures value { mapped_ok bit_digits result ≡ bits_of (left args.old) }
-    ensures rest { left args.new ≡ drop 1 (left args.old) }
-{
-    let text = match args.next() {
-        Some(word) => word,
-        None => "",
-    };
-    match Bits::of(text) {
-        Some(bits) => Ok(bits),
-        None => Err(Why::NoBits),
     }
 }

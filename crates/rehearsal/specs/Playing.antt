@@ -1,11 +1,15 @@
 -- What a rehearsal answers to a line, and what it is after it. Assumes nothing.
-use Rattle.std.specs.Prelude.{ℕ, ◌-◌, Bool, true, false, cond, Some, None, Option, nat_le}
+use Rattle.std.specs.Prelude.{ℕ, ◌-◌, cond, Some, None, Option, Ok, Err, Result, nat_le}
+use Rattle.std.specs.Option.{option_or}
 use Rattle.rules.specs.Limits.{first_block, volume_of}
 use Rattle.rules.specs.declared.refusal.Refusal.TheVariants.{Missing, NoVolume}
-use Rattle.lines.specs.Lines.{Asked, Said, Heard, Format, Write, Clear, Hold, Release, Would, Copy, New, Drop, Read, ReadHold, Free, Sync, Stream, Take, Show, Listing, Plain, Power, Cut, Skipped, Understood, Misread}
-use Rattle.answers.specs.declared.About.TheVariants.{Nothing, Blocks}
+use Rattle.commands.specs.declared.trouble.Trouble.{Trouble}
+use Rattle.lines.specs.Lines.{Asked, Said, Format, Write, Clear, Hold, Release, Would, Copy, New, Drop, Read, ReadHold, Free, Sync, Stream, Take, Show, Listing, Plain, Power, Cut, mapped_ok}
+use Rattle.answers.specs.declared.About.TheVariants.{Blocks}
 use Rattle.answers.specs.declared.Answer.{Answer}
 use Rattle.answers.specs.declared.Answer.TheVariants as answer
+use Rattle.answers.specs.declared.Failure.{Failure}
+use Rattle.answers.specs.declared.Failure.TheVariants.{Refused, Misread, NotYet}
 use Rattle.rehearsal.specs.declared.Formatted.{Formatted}
 
 -- The first volume makes the device; a later one has to fit it.
@@ -21,30 +25,26 @@ formatted_by s (Some b) v = formatted_as s b v
 abbrev pub formatted : Option Formatted → ℕ → ℕ → Option Formatted
 formatted s n v = formatted_by s (volume_of n) v
 
-abbrev pub or_else : Option Formatted → Option Formatted → Option Formatted
-or_else (Some f) s = Some f
-or_else None s = s
+abbrev pub format_answer : Option Formatted → ℕ → Result Answer Failure
+format_answer (Some f) n = Ok answer.Done
+format_answer None n = Err (Refused Missing (Some (Blocks n)))
 
-abbrev pub format_answer : Option Formatted → ℕ → Answer
-format_answer (Some f) n = answer.Done
-format_answer None n = answer.Refused Missing (Blocks n)
-
-abbrev pub no_volume_lem : Answer
-no_volume_lem = answer.Refused NoVolume Nothing
+abbrev pub no_volume : Failure
+no_volume = Refused NoVolume None
 
 -- Until there is a volume, nothing but formatting is answered otherwise.
-abbrev pub up : Option Formatted → (Formatted → Answer) → Answer
-up None k = no_volume_lem
+abbrev pub up : Option Formatted → (Formatted → Result Answer Failure) → Result Answer Failure
+up None k = Err no_volume
 up (Some f) k = k f
 
 -- All blocks that slots can show are free as yet.
-abbrev pub free_answer : Option Formatted → Answer
-free_answer s = up s (λ f. answer.Value (f.blocks - first_block))
+abbrev pub free_answer : Option Formatted → Result Answer Failure
+free_answer s = up s (λ f. Ok (answer.Value (f.blocks - first_block)))
 
-abbrev pub later : Option Formatted → Answer
-later s = up s (λ _. answer.NotYet)
+abbrev pub later : Option Formatted → Result Answer Failure
+later s = up s (λ _. Err NotYet)
 
-abbrev pub answer_to_call : Option Formatted → Asked → Answer
+abbrev pub answer_to_call : Option Formatted → Asked → Result Answer Failure
 answer_to_call at (Format n v) = format_answer (formatted at n v) n
 answer_to_call at (Write d s ds) = later at
 answer_to_call at (Clear d s) = later at
@@ -64,7 +64,7 @@ answer_to_call at Show = later at
 answer_to_call at Listing = later at
 
 abbrev pub after_call : Option Formatted → Asked → Option Formatted
-after_call at (Format n v) = or_else (formatted at n v) at
+after_call at (Format n v) = option_or (formatted at n v) at
 after_call at (Write d s ds) = at
 after_call at (Clear d s) = at
 after_call at (Hold d) = at
@@ -82,7 +82,7 @@ after_call at (Take d f) = at
 after_call at Show = at
 after_call at Listing = at
 
-abbrev pub answer_to_line : Option Formatted → Said → Answer
+abbrev pub answer_to_line : Option Formatted → Said → Result Answer Failure
 answer_to_line s (Plain a) = answer_to_call s a
 answer_to_line s (Power b) = later s
 answer_to_line s (Cut b k a) = later s
@@ -93,22 +93,12 @@ after_line s (Power b) = s
 after_line s (Cut b k a) = s
 
 -- A line that is skipped has no answer, and one that is not understood changes nothing.
-abbrev pub answer_to_heard : Option Formatted → Heard → Option Answer
-answer_to_heard s Skipped = None
-answer_to_heard s (Understood l) = Some (answer_to_line s l)
-answer_to_heard s (Misread t) = Some (answer.Misread t)
+abbrev pub answer_to_reading : Option Formatted → Result (Option Said) Trouble → Result (Option Answer) Failure
+answer_to_reading s (Ok None) = Ok None
+answer_to_reading s (Ok (Some l)) = mapped_ok Some (answer_to_line s l)
+answer_to_reading s (Err t) = Err (Misread t)
 
-abbrev pub after_heard : Option Formatted → Heard → Option Formatted
-after_heard s Skipped = s
-after_heard s (Understood l) = after_line s l
-after_heard s (Misread t) = s
-
--- Is an answer an error: a refusal, a line that is not understood, or one that is not played yet.
-abbrev pub is_error : Option Answer → Bool
-is_error None = false
-is_error (Some answer.Done) = false
-is_error (Some (answer.Value n)) = false
-is_error (Some (answer.Bytes b)) = false
-is_error (Some (answer.Refused r a)) = true
-is_error (Some (answer.Misread t)) = true
-is_error (Some answer.NotYet) = true
+abbrev pub after_reading : Option Formatted → Result (Option Said) Trouble → Option Formatted
+after_reading s (Ok None) = s
+after_reading s (Ok (Some l)) = after_line s l
+after_reading s (Err t) = s

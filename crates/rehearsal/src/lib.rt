@@ -1,13 +1,14 @@
 // What `rehearse` does with a line: the same lines as on a real device, on a device in memory.
 #![tactic(auto)]
 
-ghost use Rattle.std.specs.Prelude.{◌≡◌, Bool, true, None, IsUtf8, Decides};
-ghost use Rattle.lines.specs.Lines.{asked, heard, said};
+ghost use Rattle.std.specs.Prelude.{◌≡◌, Bool, None, OnErr, IsUtf8, Decides};
+ghost use Rattle.std.specs.Option.{ok_or, option_or};
+ghost use Rattle.lines.specs.Lines.{asked, said};
 ghost use Rattle.reader.specs.Reads.{reading};
-ghost use Rattle.rehearsal.specs.Playing.{after_call, after_heard, after_line, answer_to_call, answer_to_heard, answer_to_line, format_answer, formatted, free_answer, is_error, later, no_volume_lem, or_else};
+ghost use Rattle.rehearsal.specs.Playing.{after_call, after_line, after_reading, answer_to_call, answer_to_line, answer_to_reading, format_answer, formatted, free_answer, later, no_volume};
 
-use answers::{About, Answer};
-use lines::line::{Call, Line, Reading};
+use answers::{About, Answer, Failure};
+use lines::line::{Call, Line};
 use reader::read;
 use rules::limits::{FIRST_BLOCK, blocks_of};
 use rules::refusal::Refusal;
@@ -26,15 +27,6 @@ pub struct Rehearsal {
     device: Option<Formatted>,
 }
 
-fn no_volume() -> Answer<'static>
-    ensures { result ≡ no_volume_lem }
-{
-    Answer::Refused {
-        refusal: Refusal::NoVolume,
-        about: About::Nothing,
-    }
-}
-
 impl Rehearsal {
     pub fn new() -> Rehearsal
         ensures { result.device ≡ None }
@@ -42,63 +34,63 @@ impl Rehearsal {
         Rehearsal { device: None }
     }
 
+    // The volume on the device. Until there is one, nothing but formatting is done.
+    fn volume(&self) -> Result<Formatted, Failure>
+        ensures { result ≡ ok_or self.now.device no_volume }
+    {
+        self.device.ok_or(Failure::Refused {
+            refusal: Refusal::NoVolume,
+            about: None,
+        })
+    }
+
     // The device formatted, if it can be: the first time it is made, and later it has to have the blocks.
     fn formatted(&self, n: u64, number: u64) -> Option<Formatted>
         ensures { result ≡ formatted self.now.device n number }
     {
         let blocks = blocks_of(n)?;
-        match self.device {
-            None => Some(Formatted {
-                device: blocks,
-                blocks,
-                number,
-            }),
-            Some(old) if blocks <= old.device => Some(Formatted {
-                device: old.device,
-                blocks,
-                number,
-            }),
-            Some(_) => None,
-        }
+        let device = match self.device {
+            None => blocks,
+            Some(old) if blocks <= old.device => old.device,
+            Some(_) => return None,
+        };
+        Some(Formatted {
+            device,
+            blocks,
+            number,
+        })
     }
 
-    fn format(&mut self, n: u64, number: u64) -> Answer<'static>
+    fn format(&mut self, n: u64, number: u64) -> Result<Answer<'static>, Failure>
         ensures answer { result ≡ format_answer (formatted self.old.device n number) n }
-        ensures device { self.new.device ≡ or_else (formatted self.old.device n number) self.old.device }
+        ensures device { self.new.device ≡ option_or (formatted self.old.device n number) self.old.device }
     {
-        match self.formatted(n, number) {
-            Some(device) => {
-                self.device = Some(device);
-                Answer::Done
-            }
-            None => Answer::Refused {
-                refusal: Refusal::Missing,
-                about: About::Blocks(n),
-            },
-        }
+        let device = self.formatted(n, number).ok_or(Failure::Refused {
+            refusal: Refusal::Missing,
+            about: Some(About::Blocks(n)),
+        })?;
+        self.device = Some(device);
+        Ok(Answer::Done)
     }
 
     // How many blocks are free: all that slots can show.
-    fn free(&self) -> Answer<'static>
+    fn free(&self) -> Result<Answer<'static>, Failure>
         ensures { result ≡ free_answer self.now.device }
     {
-        match self.device {
-            Some(device) => Answer::Value(u64::from(device.blocks.saturating_sub(FIRST_BLOCK))),
-            None => no_volume(),
-        }
+        let volume = self.volume()?;
+        Ok(Answer::Value(u64::from(volume.blocks.saturating_sub(FIRST_BLOCK))))
     }
 
     // What is not played yet.
-    fn later(&self) -> Answer<'static>
+    fn later(&self) -> Result<Answer<'static>, Failure>
         ensures { result ≡ later self.now.device }
     {
-        match self.device {
-            Some(_) => Answer::NotYet,
-            None => no_volume(),
-        }
+        self.volume()?;
+        Err(Failure::NotYet)
     }
 
-    fn call(&mut self, call: Call<'_>) -> Answer<'static>
+    // A match on what is asked, since a call has fields of its own; a table of closures would have to take them apart again.
+    fn call(&mut self, call: Call<'_>) -> Result<Answer<'static>, Failure>
         ensures answer { result ≡ answer_to_call self.old.device (asked call.entry) }
         ensures device { self.new.device ≡ after_call self.old.device (asked call.entry) }
     {
@@ -109,7 +101,7 @@ impl Rehearsal {
         }
     }
 
-    fn play(&mut self, line: Line<'_>) -> Answer<'static>
+    fn play(&mut self, line: Line<'_>) -> Result<Answer<'static>, Failure>
         ensures answer { result ≡ answer_to_line self.old.device (said line.entry) }
         ensures device { self.new.device ≡ after_line self.old.device (said line.entry) }
     {
@@ -119,24 +111,15 @@ impl Rehearsal {
         }
     }
 
-    // The answer to what was read.
-    fn respond(&mut self, reading: Reading<'_>) -> Option<Answer<'static>>
-        ensures answer { result ≡ answer_to_heard self.old.device (heard reading.entry) }
-        ensures device { self.new.device ≡ after_heard self.old.device (heard reading.entry) }
+    // Plays a line, which comes without its end, and answers it, unless it is to be skipped. Where it fails, nothing changes.
+    pub fn answer(&mut self, line: &[u8]) -> Result<Option<Answer<'static>>, Failure>
+        ensures answer { (t : Bool) → Decides t (IsUtf8 line.now) → result ≡ answer_to_reading self.old.device (reading t line.now) }
+        ensures device { (t : Bool) → Decides t (IsUtf8 line.now) → self.new.device ≡ after_reading self.old.device (reading t line.now) }
+        ensures same { OnErr result (self.new.device ≡ self.old.device) }
     {
-        match reading {
-            Reading::Skipped => None,
-            Reading::Understood(line) => Some(self.play(line)),
-            Reading::Misread(trouble) => Some(Answer::Misread(trouble)),
-        }
-    }
-
-    // Plays a line, which comes without its end, and answers it, unless it is to be skipped. Where the answer is an error, nothing changes.
-    pub fn answer(&mut self, line: &[u8]) -> Option<Answer<'static>>
-        ensures answer { (t : Bool) → Decides t (IsUtf8 line.now) → result ≡ answer_to_heard self.old.device (reading t line.now) }
-        ensures device { (t : Bool) → Decides t (IsUtf8 line.now) → self.new.device ≡ after_heard self.old.device (reading t line.now) }
-        ensures same { is_error result ≡ true → self.new.device ≡ self.old.device }
-    {
-        self.respond(read(line))
+        let Some(line) = read(line)? else {
+            return Ok(None);
+        };
+        Ok(Some(self.play(line)?))
     }
 }

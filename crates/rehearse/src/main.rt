@@ -14,44 +14,41 @@ The first line is `format N V`: a device of N blocks, and a volume of number V o
 // Answers each line before it waits for the next.
 fn play(rt: &HostRuntime) -> io::Result<()> {
     let mut input = BufReader::new(rt.alloc(), rt.stdin())?;
-    let mut line = LineBuffer::new(rt.alloc())?;
+    let mut buffer = LineBuffer::new(rt.alloc())?;
     let mut rehearsal = Rehearsal::new();
+    // An input may never end, and each loop has to.
     for _ in 0..u64::MAX {
-        if !line.next(&mut input)? {
+        let Some(line) = buffer.next(&mut input)? else {
             break;
-        }
-        if let Some(answer) = rehearsal.answer(line.bytes.as_slice()) {
-            println!(rt; "{answer}")?;
+        };
+        match rehearsal.answer(line) {
+            Ok(None) => {}
+            Ok(Some(answer)) => println!(rt; "{answer}")?,
+            Err(failure) => println!(rt; "{failure}")?,
         }
     }
     Ok(())
 }
 
-fn run(rt: &HostRuntime) -> io::Result<bool> {
-    let mut args = env::args(rt)?;
-    let _ = args.next();
-    let Some(word) = args.next() else {
+fn run(rt: &HostRuntime) -> io::Result<ExitCode> {
+    let Some(word) = env::args(rt)?.nth(1) else {
         play(rt)?;
-        return Ok(true);
+        return Ok(ExitCode::SUCCESS);
     };
     match word.as_str() {
         "--help" => println!(rt; "{USAGE}")?,
         "--version" => println!(rt; "rehearse 0.1.0")?,
         _ => {
             eprintln!(rt; "{USAGE}")?;
-            return Ok(false);
+            return Ok(ExitCode::FAILURE);
         }
     }
-    Ok(true)
+    Ok(ExitCode::SUCCESS)
 }
 
 fn main(rt: HostRuntime) -> ExitCode {
-    match run(&rt) {
-        Ok(true) => ExitCode::SUCCESS,
-        Ok(false) => ExitCode::FAILURE,
-        Err(e) => {
-            let _ = eprintln!(rt; "rehearse: {e}");
-            ExitCode::FAILURE
-        }
-    }
+    run(&rt).unwrap_or_else(|e| {
+        let _ = eprintln!(rt; "rehearse: {e}");
+        ExitCode::FAILURE
+    })
 }

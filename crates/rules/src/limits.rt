@@ -10,7 +10,7 @@ const LEAST_BLOCKS: u64 = 1024;
 
 const MOST_BLOCKS: u64 = 65536;
 
-// How many blocks a volume has, if it may have so many.
+// How many blocks a volume has, if it may have so many. Not a `TryFrom`, which would ask for a type that nothing else needs.
 pub fn blocks_of(n: u64) -> Option<u32>
     ensures { result ≡ volume_of n }
 {

@@ -2,6 +2,7 @@
 ghost use Rattle.std.specs.Prelude.{◌≡◌, Some};
 ghost use Rattle.rules.specs.Refusals.{number_of, words_of};
 
+use std::error::Error;
 use std::fmt;
 
 // Each has its number. Of those that apply the lowest is given, and a call that is refused changes nothing.
@@ -28,6 +29,7 @@ pub enum Refusal {
 }
 
 impl Refusal {
+    // A name of its own, and no `From`: at the place of a call it says what the number is.
     pub fn number(self) -> u8
         ensures { result ≡ number_of self }
     {
@@ -58,3 +60,5 @@ impl fmt::Display for Refusal {
         f.write_str(self.words())
     }
 }
+
+impl Error for Refusal {}

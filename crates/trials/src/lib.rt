@@ -5,7 +5,6 @@
 mod tests {
     use digits::hex::Hex;
     use digits::show::Shown;
-    use lines::line::Reading;
     use reader::{LONGEST, read};
     use rules::limits::blocks_of;
     use rules::refusal::Refusal;
@@ -15,9 +14,9 @@ mod tests {
     // A line, read and written out.
     fn rewritten(heap: Global, text: &str) -> Result<String, Fail> {
         match read(text.as_bytes()) {
-            Reading::Understood(line) => Ok(line.to_string(heap)?),
-            Reading::Skipped => Err(Fail::new("skipped")),
-            Reading::Misread(_) => Err(Fail::new("misread")),
+            Ok(Some(line)) => Ok(line.to_string(heap)?),
+            Ok(None) => Err(Fail::new("skipped")),
+            Err(_) => Err(Fail::new("misread")),
         }
     }
 
@@ -68,21 +67,18 @@ mod tests {
     fn longest_line(rt: HostRuntime) -> Result<(), Fail> {
         let mut line = vec![in rt.alloc(); b' '; LONGEST]?;
         assert!(rt;
-            matches!(read(line.as_slice()), Reading::Skipped),
+            matches!(read(line.as_slice()), Ok(None)),
             "as long as can be"
         );
         line.push(b' ')?;
-        assert!(rt;
-            matches!(read(line.as_slice()), Reading::Misread(_)),
-            "a byte too long"
-        );
+        assert!(rt; matches!(read(line.as_slice()), Err(_)), "a byte too long");
         Ok(())
     }
 
     #[test]
     fn bytes_over_a_block(rt: HostRuntime) -> Result<(), Fail> {
         let mut block = [7u8; 4096];
-        let Ok(hex) = Hex::of("00fFA0") else {
+        let Ok(hex) = Hex::try_from("00fFA0") else {
             return Err(Fail::new("hexadecimal"));
         };
         hex.put(&mut block);

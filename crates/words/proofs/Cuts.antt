@@ -2,14 +2,13 @@
 use Rattle.std.proofs.Common.{◌≡◌, ℕ, zero, suc, ◌+◌, ◌<◌, Bool, true, false, eqb, List, [], ◌∷◌, ◌++◌, length, get_or, take, drop, IsUtf8, sym, refl, ap, ◌∙◌, subst, ⊎_elim, append_assoc, append-nil, add-zero, one-add, arith, length-drop, length-take, get_or-drop}
 use Rattle.std.specs.Str.{IsCharBoundary}
 use Rattle.std.specs.List.{prefix_len}
-use Rattle.std.proofs.lemmas.List.Sums.{prefix_len-le-length}
+use Rattle.std.proofs.lemmas.List.Sums.{prefix_len-le-length, prefix_len_passes, prefix_len_stops}
 use Rattle.std.proofs.lemmas.Bool.{cases_lt, cond_both}
 use Rattle.std.proofs.lemmas.Str.{IsCharBoundary-start, IsCharBoundary-end, IsCharBoundary-after_ascii, IsCharBoundary-before_ascii}
 use Rattle.std.proofs.lemmas.Bool.Decides.{nat_tests}
 use Rattle.words.specs.declared.byte.Kind.TheVariants.{Blank, Solid}
 use Rattle.words.specs.Bytes.{blank, is_kind}
 use Rattle.words.specs.Words.{before, remark, words_after, words}
-use Rattle.words.proofs.Fronts.{front-passes, front_ends}
 
 blank-ascii : (b : ℕ) → blank b ≡ true → b < 128
 blank-ascii b e = grind (arith, nat_tests)
@@ -25,14 +24,14 @@ behind-blanks bs u = at (prefix_len (is_kind Blank) bs) refl
         let le = prefix_len-le-length (is_kind Blank) bs in
         let inside : n < length bs = omega arith in
         let more : n + 1 ≡ suc n = omega arith in
-        subst (IsCharBoundary bs) more (IsCharBoundary-after_ascii bs n u inside (blank-ascii _ (front-passes (is_kind Blank) bs n lt)))
+        subst (IsCharBoundary bs) more (IsCharBoundary-after_ascii bs n u inside (blank-ascii _ (prefix_len_passes (is_kind Blank) bs n 0 lt)))
 
 -- and before the first blank
 pub before-blank : (bs : List ℕ) → IsCharBoundary bs (prefix_len (is_kind Solid) bs)
 before-blank bs =
     let le = prefix_len-le-length (is_kind Solid) bs in
     ⊎_elim
-    (λ lt. IsCharBoundary-before_ascii bs (prefix_len (is_kind Solid) bs) lt (let e = front_ends (is_kind Solid) bs lt in blank-ascii _ (grind arith)))
+    (λ lt. IsCharBoundary-before_ascii bs (prefix_len (is_kind Solid) bs) lt (let e = prefix_len_stops (is_kind Solid) bs 0 lt in blank-ascii _ (grind arith)))
     (λ ge. let e : prefix_len (is_kind Solid) bs ≡ length bs = omega arith in subst (IsCharBoundary bs) (sym e) (IsCharBoundary-end bs))
     (cases_lt (prefix_len (is_kind Solid) bs) (length bs))
 
@@ -75,7 +74,7 @@ module _ {bs left word rest : List ℕ} (cut : Cut bs left word rest) where
       first : 0 < length left → blank (get_or left 0 0) ≡ false
       first h =
           let more : prefix_len (is_kind Blank) bs < length bs = omega (arith, ap length cut.behind ∙ length-drop (prefix_len (is_kind Blank) bs) bs) in
-          rw (cut.behind, get_or-drop, add-zero) (front_ends (is_kind Blank) bs more)
+          rw (cut.behind, get_or-drop, add-zero) (prefix_len_stops (is_kind Blank) bs 0 more)
 
   pub no_word : length word ≡ 0 → (words bs ≡ []) × (words rest ≡ [])
   no_word z =
@@ -95,9 +94,9 @@ remark-by b w [] = refl
 remark-by b w (c ∷ bs) = cond_both (blank c) (before (b ∷ w) (words_after [] bs)) (words_after ((b ∷ w) ++ c ∷ []) bs) (λ ws. remark ws ≡ eqb b 35) (λ _. refl) (λ _. remark-by b (w ++ c ∷ []) bs)
 
 -- what stands behind the blanks tells whether a line is a remark
-pub remark-is : (bs : List ℕ) → remark (words bs) ≡ eqb (get_or bs (prefix_len (is_kind Blank) bs) 0) 35
-remark-is [] = refl
-remark-is (b ∷ bs) = step (blank b) refl (remark-is bs)
+pub remark_is : (bs : List ℕ) → remark (words bs) ≡ eqb (get_or bs (prefix_len (is_kind Blank) bs) 0) 35
+remark_is [] = refl
+remark_is (b ∷ bs) = step (blank b) refl (remark_is bs)
   where
     step : (t : Bool) → blank b ≡ t → remark (words bs) ≡ eqb (get_or bs (prefix_len (is_kind Blank) bs) 0) 35 → remark (words (b ∷ bs)) ≡ eqb (get_or (b ∷ bs) (prefix_len (is_kind Blank) (b ∷ bs)) 0) 35
     step true e again = rw (e, one-add) again

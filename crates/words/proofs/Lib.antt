@@ -1,6 +1,4 @@
-mod Cuts
+pub mod Cuts
 pub mod Decimals
-mod Fronts
 pub mod Parts
 pub mod Spaced
-mod Values

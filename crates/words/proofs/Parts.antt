@@ -1,12 +1,12 @@
 -- The words of a text are words, and text themselves. Assumes nothing.
 use Rattle.std.proofs.Common.{◌≡◌, ℕ, zero, suc, ◌-◌, ◌<◌, ◌≤◌, Bool, true, false, List, [], ◌∷◌, length, take, drop, IsUtf8, sym, refl, subst, ⊎_elim, one-add, arith, length-drop}
-use Rattle.std.specs.List.{prefix_len, AllByRecursion}
+use Rattle.std.specs.List.{list_all, prefix_len, AllByRecursion}
 use Rattle.std.proofs.lemmas.List.{length-take-le}
 use Rattle.std.proofs.lemmas.List.Sums.{prefix_len-le-length}
 use Rattle.std.proofs.lemmas.Bool.{cases_lt}
 use Rattle.std.proofs.lemmas.Str.{IsUtf8-drop, IsUtf8-take}
 use Rattle.words.specs.declared.byte.Kind.TheVariants.{Blank, Solid as SolidKind}
-use Rattle.words.specs.Bytes.{every, is_kind, is_word}
+use Rattle.words.specs.Bytes.{is_kind, is_word}
 use Rattle.words.specs.Words.{words}
 use Rattle.words.proofs.Cuts.{Cut, behind-blanks, before-blank, no_word, some_word}
 
@@ -16,15 +16,15 @@ pub record Solid (w : List ℕ) : Type 0 where
   pub text : IsUtf8 w
 
 -- the front that passes a test passes it
-every-taken : (p : ℕ → Bool) (bs : List ℕ) → every p (take (prefix_len p bs) bs) ≡ true
+every-taken : (p : ℕ → Bool) (bs : List ℕ) → list_all p (take (prefix_len p bs) bs) ≡ true
 every-taken p [] = refl
 every-taken p (b ∷ bs) = step (p b) refl (every-taken p bs)
   where
-    step : (t : Bool) → p b ≡ t → every p (take (prefix_len p bs) bs) ≡ true → every p (take (prefix_len p (b ∷ bs)) (b ∷ bs)) ≡ true
+    step : (t : Bool) → p b ≡ t → list_all p (take (prefix_len p bs) bs) ≡ true → list_all p (take (prefix_len p (b ∷ bs)) (b ∷ bs)) ≡ true
     step true e again = rw (e, one-add) (rw e again)
     step false e again = rw e refl
 
-word-is : (w : List ℕ) → 0 < length w → every (is_kind SolidKind) w ≡ true → is_word w ≡ true
+word-is : (w : List ℕ) → 0 < length w → list_all (is_kind SolidKind) w ≡ true → is_word w ≡ true
 word-is [] h e = absurd (omega arith)
 word-is (b ∷ w) h e = e
 

@@ -1,16 +1,16 @@
 -- Words that were written with one blank between each and the next, read again. Assumes nothing.
 use Rattle.std.proofs.Common.{◌≡◌, ℕ, true, not, List, [], ◌∷◌, ◌++◌, sym, refl, ap, ◌∙◌, append_assoc, append-nil, arith}
-use Rattle.std.specs.List.{AllByRecursion}
+use Rattle.std.specs.List.{list_all, AllByRecursion}
 use Rattle.std.proofs.lemmas.Bool.{and_parts, not-true, cond-false}
 use Rattle.words.specs.declared.byte.Kind.TheVariants.{Solid}
-use Rattle.words.specs.Bytes.{blank, every, is_kind, is_word}
+use Rattle.words.specs.Bytes.{blank, is_kind, is_word}
 use Rattle.words.specs.Words.{before, spaced, words, words_after}
 
 -- bytes that are not blank go to the word that is being read
-after-solid : (v w bs : List ℕ) → every (is_kind Solid) w ≡ true → words_after v (w ++ bs) ≡ words_after (v ++ w) bs
+after-solid : (v w bs : List ℕ) → list_all (is_kind Solid) w ≡ true → words_after v (w ++ bs) ≡ words_after (v ++ w) bs
 after-solid v [] bs e = ap (λ l. words_after l bs) (sym (append-nil v))
 after-solid v (b ∷ w) bs e =
-    let p = and_parts (not (blank b)) (every (is_kind Solid) w) e in
+    let p = and_parts (not (blank b)) (list_all (is_kind Solid) w) e in
     cond-false (blank b) (before v (words_after [] (w ++ bs))) (words_after (v ++ b ∷ []) (w ++ bs)) (not-true (blank b) p.0) ∙ after-solid (v ++ b ∷ []) w bs p.1 ∙ ap (λ l. words_after l bs) (append_assoc v (b ∷ []) w)
 
 first_word : (w bs : List ℕ) → is_word w ≡ true → words (w ++ 32 ∷ bs) ≡ w ∷ words bs

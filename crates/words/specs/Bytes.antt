@@ -1,5 +1,6 @@
 -- The kinds of bytes that words are made of. Assumes nothing.
-use Rattle.std.specs.Prelude.{ℕ, Bool, true, false, not, ◌&&◌, ◌||◌, List, [], ◌∷◌, ◌==◌, nat_le}
+use Rattle.std.specs.Prelude.{ℕ, Bool, false, not, ◌&&◌, ◌||◌, List, [], ◌∷◌, ◌==◌, nat_le}
+use Rattle.std.specs.List.{list_all}
 use Rattle.words.specs.declared.byte.Kind.{Kind}
 use Rattle.words.specs.declared.byte.Kind.TheVariants.{Blank, Solid, Decimal, Hexadecimal, Bit}
 
@@ -26,11 +27,7 @@ is_kind Decimal b = between 48 57 b
 is_kind Hexadecimal b = is_hex b
 is_kind Bit b = is_bit b
 
-abbrev pub every : (ℕ → Bool) → List ℕ → Bool
-every p [] = true
-every p (b ∷ bs) = p b && every p bs
-
 -- Bytes that are one word: at least one, and none of them blank.
 abbrev pub is_word : List ℕ → Bool
 is_word [] = false
-is_word (b ∷ bs) = every (is_kind Solid) (b ∷ bs)
+is_word (b ∷ bs) = list_all (is_kind Solid) (b ∷ bs)

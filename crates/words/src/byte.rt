@@ -1,9 +1,9 @@
 // The kinds of bytes that words are made of.
 ghost use Rattle.std.specs.Prelude.{◌≡◌};
-ghost use Rattle.std.specs.List.{prefix_len};
-ghost use Rattle.words.specs.Bytes.{every, is_kind};
+ghost use Rattle.std.specs.List.{list_all, prefix_len};
+ghost use Rattle.words.specs.Bytes.{is_kind};
 
-#[derive(Clone, Copy)]
+#[derive(Clone, Copy, PartialEq, Eq, Debug)]
 pub enum Kind {
     Blank,
     Solid,
@@ -13,6 +13,7 @@ pub enum Kind {
 }
 
 impl Kind {
+    // One match, and no closure for each kind: contracts name a kind, and one clause holds of all five.
     fn has(self, b: u8) -> bool
         ensures { result ≡ is_kind self b }
     {
@@ -29,18 +30,13 @@ impl Kind {
     pub fn front(self, bytes: &[u8]) -> usize
         ensures { result ≡ prefix_len (is_kind self) bytes.now }
     {
-        for (i, b) in bytes.iter().enumerate() {
-            if !self.has(*b) {
-                return i;
-            }
-        }
-        bytes.len()
+        bytes.iter().take_while(|b| self.has(**b)).count()
     }
 
     // Are all bytes of this kind.
     pub fn all(self, bytes: &[u8]) -> bool
-        ensures { result ≡ every (is_kind self) bytes.now }
+        ensures { result ≡ list_all (is_kind self) bytes.now }
     {
-        self.front(bytes) == bytes.len()
+        bytes.iter().all(|b| self.has(*b))
     }
 }

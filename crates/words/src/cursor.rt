@@ -1,20 +1,20 @@
 // The words of a line, one after the other.
-ghost use Rattle.std.specs.Prelude.{◌≡◌, drop};
-ghost use Rattle.std.specs.Option.{option_map};
+ghost use Rattle.std.specs.Prelude.{◌≡◌};
+ghost use Rattle.std.specs.Iterator.{YieldsFirstRef, item_count};
 ghost use Rattle.words.specs.Left.{left};
-ghost use Rattle.words.specs.Words.{first_of, remark, words};
+ghost use Rattle.words.specs.Words.{remark, words};
 
 use crate::byte::Kind;
 
 // Does the first word of a line begin with `#`.
+#[tactic(auto, using(crate::proofs::Cuts::remark_is))]
 pub fn is_remark(line: &[u8]) -> bool
     ensures { result ≡ remark (words line.now) }
 {
-    let n = Kind::Blank.front(line);
-    n < line.len() && line[n] == b'#'
+    matches!(line.get(Kind::Blank.front(line)), Some(b'#'))
 }
 
-// What is left of a line.
+// What is left of a line, word by word.
 #[derive(Clone, Copy)]
 pub struct Words<'a> {
     rest: &'a str,
@@ -26,12 +26,16 @@ impl<'a> Words<'a> {
     {
         Words { rest: line }
     }
+}
 
-    // The next word, if there is one.
-    pub fn next(&mut self) -> Option<&'a str>
-        ensures word { option_map (λ x. x.now) result ≡ first_of (left self.old) }
-        ensures rest { left self.new ≡ drop 1 (left self.old) }
-    {
+impl<'a> Iterator for Words<'a> {
+    type Item = &'a str;
+
+    ghost next_gives = { YieldsFirstRef left };
+
+    ghost remaining = { item_count left };
+
+    fn next(&mut self) -> Option<&'a str> {
         let line = self.rest;
         let (_, line) = line.split_at(Kind::Blank.front(line.as_bytes()));
         let (word, rest) = line.split_at(Kind::Solid.front(line.as_bytes()));

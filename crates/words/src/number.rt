@@ -1,52 +1,39 @@
 // A decimal number in a word.
-ghost use Rattle.std.specs.Prelude.{◌≡◌, ◌+◌, ◌-◌, ◌*◌, ◌^◌, ◌<◌, true};
-ghost use Rattle.std.specs.Option.{SomeIff};
-ghost use Rattle.words.specs.Bytes.{every, is_kind};
-ghost use Rattle.words.specs.Digits.{value_after};
-ghost use Rattle.words.specs.Numbers.{number_of};
-ghost use Rattle.words.specs.declared.byte.Kind.TheVariants.{Decimal};
+ghost use Rattle.std.specs.Prelude.{◌≡◌, Some};
+ghost use Rattle.words.specs.Numbers.{not_number_text, number_of};
 
 use crate::byte::Kind;
+use std::error::Error;
+use std::fmt;
 
-// What a word says as a decimal number: one that fits 64 bits, one that is too large for that, or none.
-#[derive(Clone, Copy)]
-pub enum Number {
-    Fits(u64),
+// Why a word is not a number of 64 bits.
+#[derive(Clone, Copy, PartialEq, Eq, Debug)]
+pub enum NotNumber {
+    // Something in it is no digit.
+    NoDigits,
+    // A number that is too large for that.
     TooLarge,
-    NoNumber,
 }
 
-// The number with one digit more behind it, if it fits.
-fn appended(n: u64, b: u8) -> Option<u64>
-    requires { is_kind Decimal b ≡ true }
-    ensures { SomeIff result (n * 10 + (b - 48) < 2 ^ 64) (n * 10 + (b - 48)) }
+// The number that a word is in decimal digits, if it fits 64 bits. `parse` alone would take a plus in front.
+pub fn number(word: &str) -> Result<u64, NotNumber>
+    ensures { result ≡ number_of word.now }
 {
-    n.checked_mul(10)?.checked_add(u64::from(b - b'0'))
-}
-
-// The value of decimal digits, if it fits.
-fn value(digits: &[u8]) -> Option<u64>
-    requires { every (is_kind Decimal) digits.now ≡ true }
-    ensures { SomeIff result (value_after 0 digits.now < 2 ^ 64) (value_after 0 digits.now) }
-{
-    let mut n: u64 = 0;
-    for b in digits {
-        n = appended(n, *b)?;
+    if word.is_empty() || !Kind::Decimal.all(word.as_bytes()) {
+        return Err(NotNumber::NoDigits);
     }
-    Some(n)
+    word.parse().map_err(|_| NotNumber::TooLarge)
 }
 
-impl Number {
-    pub fn of(word: &str) -> Number
-        ensures { result ≡ number_of word.now }
-    {
-        let digits = word.as_bytes();
-        if digits.is_empty() || !Kind::Decimal.all(digits) {
-            return Number::NoNumber;
-        }
-        match value(digits) {
-            Some(n) => Number::Fits(n),
-            None => Number::TooLarge,
-        }
+impl fmt::Display for NotNumber {
+    ghost output = { λ e. Some (not_number_text e) };
+
+    fn fmt<W: fmt::Write>(&self, f: &mut fmt::Formatter<W>) -> fmt::Result {
+        f.write_str(match self {
+            NotNumber::NoDigits => "not a number",
+            NotNumber::TooLarge => "a number of more than 64 bits",
+        })
     }
 }
+
+impl Error for NotNumber {}

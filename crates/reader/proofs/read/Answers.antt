@@ -1,11 +1,15 @@
-use Rattle.std.proofs.Common.{true, IsUtf8, sym, refl, ap, ◌∙◌, subst}
-use Rattle.reader.specs.Reads.{reading}
-use Rattle.reader.proofs.Reread.{written_read, written-text}
+use Rattle.std.proofs.Common.{IsUtf8, sym, subst, rules}
+use Rattle.words.proofs.Parts.{parts}
+use Rattle.words.specs.Words.{words}
+use Rattle.reader.proofs.Heeded.{heard-by}
+use Rattle.reader.proofs.Reread.{written_said, written-text}
 use Rattle.reader.proofs.read.Goals as goal
 
-pub returns : goal.returns
-returns c = record {
-  reads = c.understood.ensures.reads;
-  again = λ l p e. c.understood.ensures.reads true ((λ _. subst IsUtf8 (sym e) (written-text l p)), (λ _. refl)) ∙ ap (reading true) e ∙ written_read l p;
-  values = c.understood.ensures.values;
-}
+pub returns-in_default-clause-again : goal.returns-in_default-clause-again
+returns-in_default-clause-again c l p e = let text = subst IsUtf8 (sym e) (written-text l p) in absurd (search rules)
+
+pub returns-clause-again : goal.returns-clause-again
+returns-clause-again c l p e = let same = written_said l p in search rules
+
+pub returns-clause-values : goal.returns-clause-values
+returns-clause-values c l e = heard-by (words c.args.line.now) l (parts c.args.line.now (search rules)) (search rules)

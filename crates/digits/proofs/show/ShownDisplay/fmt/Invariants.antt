@@ -1,6 +1,6 @@
 use Rattle.std.proofs.Common.{take}
 use Rattle.std.specs.Fmt.{IsPlainFormatter, HasWritten}
-use Rattle.digits.specs.Hex.{hex_of}
+use Rattle.digits.specs.HexText.{hex_of}
 use Rattle.digits.proofs.show.ShownDisplay.fmt.Given as goal
 
 abbrev pub invariant-loop-b : goal.invariant-loop-b
