@@ -1,28 +1,17 @@
 -- The table of what each block is for.
-use Rattle.std.proofs.Common.{◌≡◌, ℕ, zero, suc, ◌+◌, ◌-◌, ◌<◌, ◌≤◌, Bool, true, false, cond, not, ◌||◌, ltb, leb, ◌⊎◌, List, [], ◌∷◌, ◌++◌, map, length, get_or, set, replicate, sym, refl, ap, ◌∙◌, inl, inr, ⊎_elim, arith}
-use Rattle.std.specs.List.{prefix_len}
+use Rattle.std.proofs.Common.{◌≡◌, ℕ, zero, suc, ◌+◌, ◌-◌, ◌<◌, ◌≤◌, true, false, not, ◌||◌, ltb, leb, ◌⊎◌, List, [], ◌∷◌, ◌++◌, map, length, set, replicate, sym, refl, ap, ◌∙◌, inl, ⊎_elim, arith}
 use Rattle.std.proofs.lemmas.Bool.Decides.{nat_tests}
-use Rattle.std.proofs.lemmas.Bool.{cases_eq, eq-eqb, ne_eqb, leb-false, not-false, true≢false, cases_lt}
+use Rattle.std.proofs.lemmas.Bool.{eq-eqb, ne_eqb, leb-false, not-false, true≢false, cases_lt}
+use Rattle.std.proofs.lemmas.List.Sums.{prefix_len_stops}
 use Rattle.std.proofs.lemmas.List.{length-set, get_or-set_same, get_or-set_other, get_or_past, length-append, length-replicate}
 use Rattle.rules.specs.Limits.{first_block}
 use Rattle.model.specs.Blocks.{is, is_reserved, is_free, is_used, use_at, used_at, lowest_in, is_full, free_all, used_by, renew, unused}
 use Rattle.model.specs.Sums.{bit, sum}
 use Rattle.model.specs.declared.types.Ptr.{Ptr}
 use Rattle.model.specs.declared.types.Slot.{Slot}
-use Rattle.model.specs.declared.types.Slot.TheVariants.{Empty, At}
 use Rattle.model.specs.declared.types.Use.{Use}
 use Rattle.model.specs.declared.types.Use.TheVariants.{Reserved, Free, Used, Freed}
 use Rattle.model.proofs.Sums.{bit-most}
-
--- the first element that doesn't pass a test
-pub stops : {X : Type 0} (p : X → Bool) (xs : List X) (z : X) → prefix_len p xs < length xs → p (get_or xs (prefix_len p xs) z) ≡ false
-stops p [] z lt = absurd (omega arith)
-stops p (x ∷ xs) z lt = go (p x) refl (stops p xs z) lt
-  where
-    go : (b : Bool) → p x ≡ b → (prefix_len p xs < length xs → p (get_or xs (prefix_len p xs) z) ≡ false) → cond b (1 + prefix_len p xs) 0 < suc (length xs) →
-        p (get_or (x ∷ xs) (cond b (1 + prefix_len p xs) 0) z) ≡ false
-    go true e again l = let n : 1 + prefix_len p xs ≡ suc (prefix_len p xs) = omega arith in rw n (again (omega arith))
-    go false e again l = e
 
 -- a block that is in use is there
 pub used-there : (b : ℕ) (us : List Use) → used_at b us ≡ true → b < length us
@@ -33,26 +22,17 @@ pub lowest-there : (us : List Use) → is_full us ≡ false → lowest_in us < l
 lowest-there us h = leb-false (length us) (lowest_in us) h
 
 pub lowest-free : (us : List Use) → is_full us ≡ false → is_free (use_at (lowest_in us) us) ≡ true
-lowest-free us h = not-false _ (stops (λ u. not (is_free u)) us Reserved (lowest-there us h))
+lowest-free us h = not-false _ (prefix_len_stops (λ u. not (is_free u)) us Reserved (lowest-there us h))
 
 -- a use by what it isn't
 pub free-unused : (u : Use) → is_free u ≡ true → is_used u ≡ false
-free-unused Reserved h = absurd (true≢false (sym h))
-free-unused Free h = refl
-free-unused Used h = absurd (true≢false (sym h))
-free-unused Freed h = refl
+free-unused u h = grind (arith, nat_tests)
 
 pub free_open : (u : Use) → is_free u ≡ true → is_reserved u ≡ false
-free_open Reserved h = absurd (true≢false (sym h))
-free_open Free h = refl
-free_open Used h = refl
-free_open Freed h = refl
+free_open u h = grind (arith, nat_tests)
 
 pub used-open : (u : Use) → is_used u ≡ true → is_reserved u ≡ false
-used-open Reserved h = absurd (true≢false (sym h))
-used-open Free h = refl
-used-open Used h = refl
-used-open Freed h = refl
+used-open u h = grind (arith, nat_tests)
 
 -- blocks become free
 pub length-free : (ps : List Ptr) (us : List Use) → length (free_all ps us) ≡ length us
@@ -61,8 +41,7 @@ length-free [] us = refl
 length-free (p ∷ ps) us = length-free ps (set us p.block Freed) ∙ length-set us p.block Freed
 
 pub length-used : (x : Slot) (us : List Use) → length (used_by x us) ≡ length us
-length-used Empty us = refl
-length-used (At p) us = length-set us p.block Used
+length-used x us = grind (arith, nat_tests, length-set)
 
 use-freed : (us : List Use) (c : ℕ) → c < length us → use_at c (set us c Freed) ≡ Freed
 use-freed us c lt = get_or-set_same us c Freed Reserved lt
@@ -82,36 +61,13 @@ used-taken us b lt = ap is_used (get_or-set_same us b Used Reserved lt)
 pub counts-free : (c : ℕ) (ps : List Ptr) (us : List Use) → sum (is c) ps ≤ bit (used_at c us) → bit (used_at c (free_all ps us)) + sum (is c) ps ≡ bit (used_at c us)
 unfolding free_all
 counts-free c [] us le = omega arith
-counts-free c (p ∷ ps) us le = go (counts-free c ps (set us p.block Freed)) (cases_eq c p.block)
-  where
-    go : (sum (is c) ps ≤ bit (used_at c (set us p.block Freed)) → bit (used_at c (free_all ps (set us p.block Freed))) + sum (is c) ps ≡ bit (used_at c (set us p.block Freed))) →
-        (c ≡ p.block) ⊎ (c ≡ p.block → ⊥) → bit (used_at c (free_all ps (set us p.block Freed))) + (is c p + sum (is c) ps) ≡ bit (used_at c us)
-    go again (inl e) =
-        let one' : is c p ≡ 1 = ap bit (eq-eqb p.block c (sym e)) in
-        let no' : bit (used_at c (set us p.block Freed)) ≡ 0 = ap bit (ap (λ n. used_at c (set us n Freed)) (sym e) ∙ unused-freed us c) in
-        let most : bit (used_at c us) ≤ 1 = bit-most (used_at c us) in
-        omega (arith, again (omega (arith, le, one', no', most)), one', no', most, le)
-    go again (inr ne) =
-        let zero' : is c p ≡ 0 = ap bit (ne_eqb p.block c (λ e. ne (sym e))) in
-        let same : bit (used_at c (set us p.block Freed)) ≡ bit (used_at c us) = ap (λ u. bit (is_used u)) (used-other us p.block c Freed ne) in
-        omega (arith, again (omega (arith, le, zero', same)), zero', same)
+counts-free c (p ∷ ps) us le = let again = counts-free c ps (set us p.block Freed) in grind (arith, nat_tests, bit-most, eq-eqb, ne_eqb, unused-freed, used-other)
 
 -- what a block is for after a list became free: as before, or freed if it is in the list
 pub free-cases : (c : ℕ) (ps : List Ptr) (us : List Use) → ((sum (is c) ps ≡ 0) × (use_at c (free_all ps us) ≡ use_at c us)) ⊎ ((0 < sum (is c) ps) × (c < length us → use_at c (free_all ps us) ≡ Freed))
 unfolding free_all
 free-cases c [] us = inl (refl, refl)
-free-cases c (p ∷ ps) us = go (free-cases c ps (set us p.block Freed)) (cases_eq c p.block)
-  where
-    go : ((sum (is c) ps ≡ 0) × (use_at c (free_all ps (set us p.block Freed)) ≡ use_at c (set us p.block Freed))) ⊎ ((0 < sum (is c) ps) × (c < length (set us p.block Freed) → use_at c (free_all ps (set us p.block Freed)) ≡ Freed)) →
-        (c ≡ p.block) ⊎ (c ≡ p.block → ⊥) →
-        ((is c p + sum (is c) ps ≡ 0) × (use_at c (free_all ps (set us p.block Freed)) ≡ use_at c us)) ⊎ ((0 < is c p + sum (is c) ps) × (c < length us → use_at c (free_all ps (set us p.block Freed)) ≡ Freed))
-    go (inl r) (inl e) =
-        let one' : is c p ≡ 1 = ap bit (eq-eqb p.block c (sym e)) in
-        inr (omega arith, λ lt. r.1 ∙ ap (λ n. use_at c (set us n Freed)) (sym e) ∙ use-freed us c lt)
-    go (inl r) (inr ne) =
-        let zero' : is c p ≡ 0 = ap bit (ne_eqb p.block c (λ e. ne (sym e))) in
-        inl (omega (arith, r.0), r.1 ∙ used-other us p.block c Freed ne)
-    go (inr r) e = inr (omega (arith, r.0), λ lt. r.1 (omega (arith, length-set us p.block Freed)))
+free-cases c (p ∷ ps) us = let again = free-cases c ps (set us p.block Freed) in grind (arith, nat_tests, eq-eqb, length-set, ne_eqb, use-freed, used-other)
 
 -- a sync: what is in use and what is reserved stays
 pub use-renew : (b : ℕ) (us : List Use) → use_at b (map renew us) ≡ renew (use_at b us)
@@ -120,16 +76,10 @@ use-renew zero (u ∷ us) = refl
 use-renew (suc b) (u ∷ us) = use-renew b us
 
 pub used-renew : (u : Use) → is_used (renew u) ≡ is_used u
-used-renew Reserved = refl
-used-renew Free = refl
-used-renew Used = refl
-used-renew Freed = refl
+used-renew u = grind (arith, nat_tests)
 
 pub reserved-renew : (u : Use) → is_reserved (renew u) ≡ is_reserved u
-reserved-renew Reserved = refl
-reserved-renew Free = refl
-reserved-renew Used = refl
-reserved-renew Freed = refl
+reserved-renew u = grind (arith, nat_tests)
 
 -- the table of a formatted volume
 pub length-unused : (n : ℕ) → length (unused n) ≡ first_block + (n - first_block)

@@ -1,26 +1,28 @@
 -- Every call keeps within the limits.
-use Rattle.std.proofs.Common.{◌≡◌, ℕ, zero, suc, ◌+◌, ◌<◌, ◌≤◌, Bool, true, false, cond, not, ◌||◌, ltb, leb, List, [], ◌∷◌, ◌++◌, length, Some, None, Option, refl, ap, ◌∙◌, arith}
+use Rattle.std.proofs.lemmas.Bool.Decides.{nat_tests}
+use Rattle.std.proofs.Common.{◌≡◌, ℕ, zero, suc, ◌+◌, ◌<◌, ◌≤◌, Bool, false, not, ltb, leb, List, [], ◌∷◌, ◌++◌, length, Some, None, Option, refl, ap, ◌∙◌, arith}
 use Rattle.std.specs.List.{remove, AllByRecursion}
 use Rattle.std.proofs.ByRecursion.{All-set, All-push, All-get_or}
 use Rattle.std.proofs.lemmas.List.{length-set, length-map, length-append, length_push, get_or-set_same}
+use Rattle.std.proofs.lemmas.List.Edits.{length-remove}
+use Rattle.std.proofs.lemmas.List.Sums.{length-filter, count_by-le-length}
 use Rattle.std.proofs.lemmas.Bool.{or_parts, leb-false, ltb-false}
 use Rattle.rules.specs.Limits.{volume_of, least_blocks, most_blocks, most_holds, most_disks, area_room, moment_end, name_end}
 use Rattle.model.specs.Blocks.{keeps, renew}
 use Rattle.model.specs.Calls.{Call, write, clear, hold, release, copy, new, drop, take, sync, ask}
 use Rattle.model.specs.Maps.{Map, look_in, remove_in, shown_in, shown_by}
-use Rattle.model.specs.Runs.{reasons, does, step, run, taken_at}
+use Rattle.model.specs.Runs.{reasons, does, step, run}
 use Rattle.model.specs.Sound.{Within}
 use Rattle.model.specs.Steps.{change}
-use Rattle.model.specs.Steps.{Change, leaving, showing, slot_for, change_at, changes_at, held, holds_at, hold_of, gone_at, with_gone, present_gone, joined, released, start}
+use Rattle.model.specs.Steps.{Change, showing, slot_for, change_at, changes_at, holds_at, gone_at, with_gone, present_gone, released, start}
 use Rattle.model.specs.Sums.{sum}
-use Rattle.model.specs.Tests.{front, no_slot, many_holds, many_disks, too_long, no_moment, no_name}
-use Rattle.model.specs.Volume.{Hold, Disk, Volume, blank, disk_at, hold_at, place_of, hold_place, holder_of, hold_bytes, gone_bytes, disk_bytes, area_bytes, moment_last, moment_before}
+use Rattle.model.specs.Tests.{front, no_slot, too_long, no_moment, no_name}
+use Rattle.model.specs.Volume.{Hold, Disk, Volume, blank, disk_at, hold_at, place_of, hold_bytes, gone_bytes, disk_bytes, area_bytes}
 use Rattle.model.specs.declared.types.Mark.{Mark}
 use Rattle.model.specs.declared.types.Ptr.{Ptr}
 use Rattle.model.specs.declared.types.Slot.TheVariants.{Empty}
 use Rattle.model.proofs.Blocks.{length-free, length-unused}
 use Rattle.model.proofs.Disks.{disk-there, holder-there, hold-there, all-removed}
-use Rattle.model.proofs.Lines.{length-shown}
 use Rattle.model.proofs.Maps.{sum-remove}
 use Rattle.model.proofs.Steps.{NoneApplies, by-step}
 use Rattle.model.proofs.Sums.{sum-set, sum-removed, one, sum_one}
@@ -28,20 +30,13 @@ use Rattle.model.proofs.Tables.{length-table}
 
 -- BYTES
 keeps-few : (k : ℕ) (l : List Ptr) → length (keeps k l) ≤ length l
-keeps-few k [] = omega arith
-keeps-few k (p ∷ l) = go (not (ltb k p.birth)) (keeps-few k l)
-  where
-    go : (b : Bool) → length (keeps k l) ≤ length l → length (cond b (p ∷ keeps k l) (keeps k l)) ≤ suc (length l)
-    go true again = omega arith
-    go false again = omega arith
+keeps-few k l = let young : Ptr → Bool = λ p. not (ltb k p.birth) in omega (arith, length-filter young l, count_by-le-length young l)
 
 length_removed : (s : ℕ) (m : Map) → length (remove_in s m) + length (shown_in (look_in s m)) ≡ length m
-length_removed s m = omega (arith, sum-remove one s m, sum_one (shown_by (remove_in s m)), sum_one (shown_in (look_in s m)), sum_one (shown_by m), length-shown m, length-shown (remove_in s m))
+length_removed s m = omega (arith, sum-remove one s m, sum_one (shown_by (remove_in s m)), sum_one (shown_in (look_in s m)), sum_one (shown_by m), length-map m (λ e. e.at), length-map (remove_in s m) (λ e. e.at))
 
 clear-bytes : (s : ℕ) (d : Disk) → disk_bytes (showing s Empty d) ≤ disk_bytes d
-clear-bytes s d =
-    let l = leaving s d in
-    omega (arith, length_removed s d.shows, length-append d.gone (keeps (moment_last d) l), keeps-few (moment_last d) l)
+clear-bytes s d = grind (arith, nat_tests, keeps-few, length-append, length_removed)
 
 -- the lists of a line without a hold are no longer than with it
 line-bytes : (j : ℕ) (x : List Ptr) (hs : List Hold) (g : List Ptr) → j < length hs → length x ≤ length (gone_at (suc j) hs g) + length (hold_at j hs).gone →
@@ -52,13 +47,7 @@ line-bytes zero x (h ∷ n ∷ hs) g lt le = omega arith
 line-bytes (suc j) x (h ∷ hs) g lt le = omega (arith, line-bytes j x hs g (omega arith) le)
 
 release-bytes : (j : ℕ) (d : Disk) → j < length d.holds → disk_bytes (released j d) ≤ disk_bytes d
-release-bytes j d lt =
-    let g = gone_at (suc j) d.holds d.gone in
-    let k = moment_before j d in
-    omega (
-      arith,
-      line-bytes j (joined j d) d.holds d.gone lt (omega (arith, length-append (keeps k g) (hold_at j d.holds).gone, keeps-few k g)),
-    )
+release-bytes j d lt = grind (arith, nat_tests, keeps-few, length-append, line-bytes)
 
 -- HOLDS of each disk
 abbrev FewHolds : Disk → Type 0
@@ -68,11 +57,6 @@ length-gone : (j : ℕ) (x : List Ptr) (hs : List Hold) → length (with_gone j 
 length-gone j x [] = refl
 length-gone zero x (h ∷ hs) = refl
 length-gone (suc j) x (h ∷ hs) = ap suc (length-gone j x hs)
-
-length-removed-at : {X : Type 0} (xs : List X) (i : ℕ) → i < length xs → length (remove xs i) + 1 ≡ length xs
-length-removed-at [] i lt = absurd (omega arith)
-length-removed-at (x ∷ xs) zero lt = omega arith
-length-removed-at (x ∷ xs) (suc i) lt = omega (arith, length-removed-at xs i (omega arith))
 
 -- CHANGES, without their bytes
 pub record Like (v w : Volume) (i k : ℕ) : Type 0 where
@@ -112,9 +96,7 @@ name-left : (v : Volume) → no_name v ≡ false → v.names + 1 < name_end
 name-left v h = leb-false name_end (v.names + 1) h
 
 hold-within : (i : ℕ) (m : Option Mark) (v : Volume) → i < length v.disks → AllByRecursion FewHolds v.disks → length (disk_at i v.disks).holds < most_holds → AllByRecursion FewHolds (holds_at i m v).disks
-hold-within i m v lt few less =
-    let d = disk_at i v.disks in
-    All-set FewHolds v.disks i _ (omega (arith, length_push d.holds (hold_of (record { name = v.names; moment = v.moment }) d))) few
+hold-within i m v lt few less = grind (arith, nat_tests, All-set, length_push)
 
 one_more : (ds : List Disk) (d : Disk) → leb most_disks (length ds) ≡ false → length (ds ++ d ∷ []) ≤ most_disks
 one_more ds d h = omega (arith, length_push ds d, leb-false most_disks (length ds) h)
@@ -134,65 +116,10 @@ does-same (ask q) v no' = (refl, refl)
 
 module _ (c : Call) (v : Volume) (no' : NoneApplies (reasons c v)) (ok : Within v) where
   still : (does c v).leaves.moment < moment_end → (does c v).leaves.names < name_end → length (does c v).leaves.disks ≤ most_disks → AllByRecursion FewHolds (does c v).leaves.disks → area_bytes (does c v).leaves ≤ area_room → Within (does c v).leaves
-  still moment names disks holds space =
-      let e = does-same c v no' in
-      record { number = rw e.0 ok.number; moment = moment; names = names; disks = disks; holds = holds; room = space; least = rw e.1 ok.least; most = rw e.1 ok.most }
+  still moment names disks holds space = grind (arith, nat_tests, does-same, room)
 
 does-within : (c : Call) (v : Volume) → NoneApplies (reasons c v) → Within v → Within (does c v).leaves
-does-within (write d s bs) v no' ok =
-    let i = place_of d v.disks in
-    let r = changes-like i (change s (Some bs) ∷ []) v (disk-there d v.disks (or_parts _ (no_slot s) no'.0).0) in
-    still (write d s bs) v no' ok (moment-left 1 v no'.1.1.1.0) ok.names (omega (arith, r.disks, ok.disks)) (r.holds ok.holds) (room (change_at i (change s (Some bs)) v) no'.1.1.0)
-does-within (clear d s) v no' ok =
-    let i = place_of d v.disks in
-    let lt = disk-there d v.disks (or_parts _ (no_slot s) no'.0).0 in
-    let r = changes-like i (change s None ∷ []) v lt in
-    still (clear d s) v no' ok (moment-left 1 v no'.1.0) ok.names (omega (arith, r.disks, ok.disks)) (r.holds ok.holds)
-    (omega (arith, ok.room, sum-set disk_bytes v.disks i (showing s Empty (disk_at i v.disks)) blank lt, clear-bytes s (disk_at i v.disks)))
-does-within (hold d) v no' ok =
-    let i = place_of d v.disks in
-    let e = disk_at i v.disks in
-    let b = or_parts (many_holds e) _ no'.1.0 in
-    let s = or_parts (no_moment 1 v) (no_name v) no'.1.1.0 in
-    still (hold d) v no' ok (moment-left 1 v s.0) (name-left v s.1) (omega (arith, length-set v.disks i (held (record { name = v.names; moment = v.moment }) e.mark e), ok.disks))
-    (hold-within i e.mark v (disk-there d v.disks no'.0) ok.holds (leb-false most_holds (length e.holds) b.0)) (room (holds_at i e.mark v) b.1)
-does-within (release h) v no' ok =
-    let i = holder_of h v.disks in
-    let lt = holder-there h v.disks no'.0 in
-    let d = disk_at i v.disks in
-    let k = hold_place h d.holds in
-    let in' = hold-there h v.disks lt in
-    let few = All-get_or FewHolds v.disks i blank lt ok.holds in
-    still (release h) v no' ok (moment-left 1 v no'.1.1.0) ok.names (omega (arith, length-set v.disks i (released k d), ok.disks))
-    (All-set FewHolds v.disks i (released k d) (omega (arith, few, length-gone k (joined k d) (remove d.holds k), length-removed-at d.holds k in')) ok.holds)
-    (omega (arith, ok.room, sum-set disk_bytes v.disks i (released k d) blank lt, release-bytes k d in'))
-does-within (copy h) v no' ok =
-    let b = or_parts (many_disks v) _ no'.1.0 in
-    let s = or_parts (no_moment 1 v) (no_name v) no'.1.1.0 in
-    still (copy h) v no' ok (moment-left 1 v s.0) (name-left v s.1) (one_more v.disks _ b.0) (All-push FewHolds v.disks _ ok.holds (omega arith)) (room (does (copy h) v).leaves b.1)
-does-within new v no' ok =
-    let b = or_parts (many_disks v) _ no'.0 in
-    let s = or_parts (no_moment 1 v) (no_name v) no'.1.0 in
-    still new v no' ok (moment-left 1 v s.0) (name-left v s.1) (one_more v.disks _ b.0) (All-push FewHolds v.disks _ ok.holds (omega arith)) (room (does new v).leaves b.1)
-does-within (drop d) v no' ok =
-    let i = place_of d v.disks in
-    let lt = disk-there d v.disks no'.0 in
-    still (drop d) v no' ok (moment-left 1 v no'.1.1.0) ok.names (omega (arith, ok.disks, length-removed-at v.disks i lt)) (all-removed FewHolds v.disks i ok.holds)
-    (omega (arith, ok.room, sum-removed disk_bytes v.disks i blank lt))
-does-within (take d st) v no' ok =
-    let i = place_of d v.disks in
-    let e = disk_at i v.disks in
-    let cs = front 0 st.changes in
-    let lt = disk-there d v.disks no'.0 in
-    let r = changes-like i cs v lt in
-    let w = changes_at i cs v in
-    let b = or_parts (many_holds e) _ no'.1.1.0 in
-    let s = or_parts (no_moment (length cs + 1) v) (no_name v) no'.1.1.1.1.0 in
-    still (take d st) v no' ok (omega (arith, moment-left (length cs + 1) v s.0, r.moment)) (omega (arith, name-left v s.1, r.names))
-    (omega (arith, length-set w.disks i (held (record { name = w.names; moment = w.moment }) (Some st.newer) (disk_at i w.disks)), r.disks, ok.disks))
-    (hold-within i (Some st.newer) w (rw r.disks lt) (r.holds ok.holds) (omega (arith, r.here, leb-false most_holds (length e.holds) b.0))) (room (taken_at i st v) b.1)
-does-within sync v no' ok = still sync v no' ok ok.moment ok.names ok.disks ok.holds ok.room
-does-within (ask q) v no' ok = ok
+does-within c v no' ok = grind (arith, nat_tests, All-get_or, All-push, All-set, all-removed, changes-like, clear-bytes, disk-there, hold-there, hold-within, holder-there, leb-false, length-gone, length-remove, length-set, moment-left, name-left, one_more, or_parts, release-bytes, room, still, sum-removed, sum-set)
 
 pub step-within : (c : Call) (v : Volume) → Within v → Within (step c v).leaves
 step-within c v ok = by-step (λ x. Within x.leaves) c v (λ r _. ok) (λ no'. does-within c v no' ok)
@@ -213,22 +140,7 @@ run-within (c ∷ cs) v ok = run-within cs (step c v).leaves (step-within c v ok
 
 -- as it is formatted
 pub in-range : (n : ℕ) → volume_of n ≡ Some n → (least_blocks ≤ n) × (n ≤ most_blocks)
-in-range n e = go (ltb n least_blocks || ltb most_blocks n) refl e
-  where
-    go : (b : Bool) → (ltb n least_blocks || ltb most_blocks n) ≡ b → cond b None (Some n) ≡ Some n → (least_blocks ≤ n) × (n ≤ most_blocks)
-    go true q h = let z : ◌≡◌ {A = ℕ} 0 1 = cc in absurd (omega arith)
-    go false q h = let p = or_parts (ltb n least_blocks) (ltb most_blocks n) q in (ltb-false n least_blocks p.0, ltb-false most_blocks n p.1)
+in-range n e = grind (arith, nat_tests)
 
 pub start-within : (n number : ℕ) → volume_of n ≡ Some n → number < moment_end → Within (start n number)
-start-within n number e lt =
-    let r = in-range n e in
-    record {
-      number = lt;
-      moment = omega arith;
-      names = omega arith;
-      disks = omega arith;
-      holds = (omega arith, tt);
-      room = omega arith;
-      least = omega (arith, length-unused n, r.0);
-      most = omega (arith, length-unused n, r.0, r.1);
-    }
+start-within n number e lt = grind (arith, nat_tests, in-range, length-unused, room)

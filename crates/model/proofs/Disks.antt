@@ -1,18 +1,18 @@
 -- Lists of disks: where a disk or a hold is found, and what a change of one disk leaves of that.
-use Rattle.std.proofs.Common.{◌≡◌, ℕ, zero, suc, ◌+◌, ◌<◌, ◌≤◌, Bool, true, false, cond, not, eqb, leb, List, [], ◌∷◌, ◌++◌, map, length, get_or, set, Some, None, Option, sym, refl, ap, ◌∙◌, subst, arith}
+use Rattle.std.proofs.Common.{◌≡◌, ℕ, zero, suc, ◌+◌, ◌<◌, ◌≤◌, true, false, not, eqb, leb, List, [], ◌∷◌, ◌++◌, map, length, get_or, set, take, drop, Some, None, Option, sym, refl, ap, ◌∙◌, subst, arith}
 use mathlib.Core.List.{Memᴰ}
 use Rattle.std.specs.List.{remove, AllByRecursion}
+use Rattle.std.specs.Option.{option_or}
+use Rattle.std.proofs.ByRecursion.{All-append, All-take, All-drop}
 use Rattle.std.proofs.lemmas.Bool.{eqb-true, ltb-true, leb-false, not-false, or_parts}
 use Rattle.std.proofs.lemmas.Bool.Decides.{nat_tests}
-use Rattle.model.specs.Holds.{Past, past, or_else, find_hold, find, past_of, base}
+use Rattle.std.proofs.lemmas.List.Sums.{prefix_len_stops}
+use Rattle.std.proofs.lemmas.Option.{none-some}
+use Rattle.model.specs.Holds.{Past, past, find_hold, find, base}
 use Rattle.model.specs.Maps.{rising}
 use Rattle.model.specs.Volume.{Hold, Disk, blank, no_hold, disk_at, hold_at, place_of, hold_place, has_hold, holder_of, hold_named, copy_of, is_copied}
-use Rattle.model.specs.declared.types.Origin.{Origin}
-use Rattle.model.proofs.Blocks.{stops}
+use Rattle.model.specs.declared.types.HoldHead.{HoldHead}
 use Rattle.model.proofs.Maps.{rise-none, rise-parts, rise-from, rise-lower}
-
-pub none≢some : {X : Type 0} (p : X) → None ≡ Some p → ⊥
-none≢some p e = let z : ◌≡◌ {A = ℕ} 0 1 = cc in omega arith
 
 -- what holds of each
 pub all-mem : {X : Type 0} (P : X → Type 0) (d : X) (ds : List X) → AllByRecursion P ds → Memᴰ d ds → P d
@@ -30,10 +30,7 @@ all_both P Q [] a b = tt
 all_both P Q (x ∷ xs) a b = ((a.0, b.0), all_both P Q xs a.1 b.1)
 
 pub all-removed : {X : Type 0} (P : X → Type 0) (xs : List X) (i : ℕ) → AllByRecursion P xs → AllByRecursion P (remove xs i)
-all-removed P [] zero a = tt
-all-removed P [] (suc i) a = tt
-all-removed P (x ∷ xs) zero a = a.1
-all-removed P (x ∷ xs) (suc i) a = (a.0, all-removed P xs i a.1)
+all-removed P xs i a = All-append P (take i xs) (drop (suc i) xs) (All-take P i xs a) (All-drop P (suc i) xs a)
 
 -- names that rise
 abbrev pub disk_names : List Disk → List ℕ
@@ -65,29 +62,28 @@ rise-removed end n (c ∷ ds) (suc i) h =
 -- the hold of a name, after one disk is changed, added or left out
 pub find-set : (x : ℕ) (ds : List Disk) (i : ℕ) (d : Disk) → find_hold x d.holds ≡ find_hold x (disk_at i ds).holds → find x (set ds i d) ≡ find x ds
 find-set x [] i d e = refl
-find-set x (c ∷ ds) zero d e = ap (λ f. or_else f (find x ds)) e
-find-set x (c ∷ ds) (suc i) d e = ap (or_else (find_hold x c.holds)) (find-set x ds i d e)
+find-set x (c ∷ ds) zero d e = ap (λ f. option_or f (find x ds)) e
+find-set x (c ∷ ds) (suc i) d e = ap (option_or (find_hold x c.holds)) (find-set x ds i d e)
 
 pub find-push : (x : ℕ) (ds : List Disk) (d : Disk) → d.holds ≡ [] → find x (ds ++ d ∷ []) ≡ find x ds
-find-push x [] d e = ap (λ hs. or_else (find_hold x hs) None) e
-find-push x (c ∷ ds) d e = ap (or_else (find_hold x c.holds)) (find-push x ds d e)
+find-push x [] d e = ap (λ hs. option_or (find_hold x hs) None) e
+find-push x (c ∷ ds) d e = ap (option_or (find_hold x c.holds)) (find-push x ds d e)
 
 pub find-removed : (x : ℕ) (ds : List Disk) (i : ℕ) → i < length ds → (disk_at i ds).holds ≡ [] → find x (remove ds i) ≡ find x ds
 find-removed x [] i lt e = absurd (omega arith)
-find-removed x (c ∷ ds) zero lt e = sym (ap (λ hs. or_else (find_hold x hs) (find x ds)) e)
-find-removed x (c ∷ ds) (suc i) lt e = ap (or_else (find_hold x c.holds)) (find-removed x ds i (omega arith) e)
+find-removed x (c ∷ ds) zero lt e = sym (ap (λ hs. option_or (find_hold x hs) (find x ds)) e)
+find-removed x (c ∷ ds) (suc i) lt e = ap (option_or (find_hold x c.holds)) (find-removed x ds i (omega arith) e)
 
 -- what comes before a disk, likewise
-pub base_same : (ds es : List Disk) (K : Option Origin → Type 0) → ((o : Origin) → K (Some o) → find o.hold es ≡ find o.hold ds) → (f : Option Origin) → K f → base es f ≡ base ds f
-base_same ds es K h None k = refl
-base_same ds es K h (Some o) k = ap past_of (h o k)
+pub base_same : (ds es : List Disk) (K : Option HoldHead → Type 0) → ((o : HoldHead) → K (Some o) → find o.name es ≡ find o.name ds) → (f : Option HoldHead) → K f → base es f ≡ base ds f
+base_same ds es K h f k = grind (arith, nat_tests)
 
 -- a disk that is found has the name that was looked for
 pub disk-there : (n : ℕ) (ds : List Disk) → leb (length ds) (place_of n ds) ≡ false → place_of n ds < length ds
 disk-there n ds h = leb-false (length ds) (place_of n ds) h
 
 pub disk-name : (n : ℕ) (ds : List Disk) → place_of n ds < length ds → (disk_at (place_of n ds) ds).name ≡ n
-disk-name n ds lt = eqb-true _ _ (not-false _ (stops (λ d. not (eqb d.name n)) ds blank lt))
+disk-name n ds lt = eqb-true _ _ (not-false _ (prefix_len_stops (λ d. not (eqb d.name n)) ds blank lt))
 
 -- and a hold
 pub holder-there : (n : ℕ) (ds : List Disk) → leb (length ds) (holder_of n ds) ≡ false → holder_of n ds < length ds
@@ -98,52 +94,29 @@ module _ (n : ℕ) (ds : List Disk) (lt : holder_of n ds < length ds) where
   holds_there = (disk_at (holder_of n ds) ds).holds
 
   pub hold-there : hold_place n holds_there < length holds_there
-  hold-there = ltb-true _ _ (not-false _ (stops (λ d. not (has_hold n d)) ds blank lt))
+  hold-there = ltb-true _ _ (not-false _ (prefix_len_stops (λ d. not (has_hold n d)) ds blank lt))
 
   pub hold-name : (hold_named n ds).name ≡ n
-  hold-name = eqb-true _ _ (not-false _ (stops (λ h. not (eqb h.name n)) holds_there no_hold hold-there))
+  hold-name = eqb-true _ _ (not-false _ (prefix_len_stops (λ h. not (eqb h.name n)) holds_there no_hold hold-there))
 
 find-place : (n : ℕ) (hs : List Hold) → hold_place n hs < length hs → find_hold n hs ≡ Some (past (hold_at (hold_place n hs) hs))
 find-place n [] lt = absurd (omega arith)
-find-place n (h ∷ hs) lt = go (eqb h.name n) (find-place n hs) lt
-  where
-    go : (b : Bool) → (hold_place n hs < length hs → find_hold n hs ≡ Some (past (hold_at (hold_place n hs) hs))) → cond (not b) (1 + hold_place n hs) 0 < suc (length hs) →
-        cond b (Some (past h)) (find_hold n hs) ≡ Some (past (hold_at (cond (not b) (1 + hold_place n hs) 0) (h ∷ hs)))
-    go true again l = refl
-    go false again l = let e : 1 + hold_place n hs ≡ suc (hold_place n hs) = omega arith in rw e (again (omega arith))
+find-place n (h ∷ hs) lt = let again = find-place n hs in grind (arith, nat_tests)
 
 find_none : (n : ℕ) (hs : List Hold) → length hs ≤ hold_place n hs → find_hold n hs ≡ None
 find_none n [] le = refl
-find_none n (h ∷ hs) le = go (eqb h.name n) (find_none n hs) le
-  where
-    go : (b : Bool) → (length hs ≤ hold_place n hs → find_hold n hs ≡ None) → suc (length hs) ≤ cond (not b) (1 + hold_place n hs) 0 → cond b (Some (past h)) (find_hold n hs) ≡ None
-    go true again l = absurd (omega arith)
-    go false again l = again (omega arith)
+find_none n (h ∷ hs) le = let again = find_none n hs in grind (arith, nat_tests)
 
 find-holder : (n : ℕ) (ds : List Disk) → holder_of n ds < length ds → find n ds ≡ find_hold n (disk_at (holder_of n ds) ds).holds
 find-holder n [] lt = absurd (omega arith)
-find-holder n (d ∷ ds) lt = go (has_hold n d) refl (find-holder n ds) lt
-  where
-    go : (b : Bool) → has_hold n d ≡ b → (holder_of n ds < length ds → find n ds ≡ find_hold n (disk_at (holder_of n ds) ds).holds) → cond (not b) (1 + holder_of n ds) 0 < suc (length ds) →
-        or_else (find_hold n d.holds) (find n ds) ≡ find_hold n (disk_at (cond (not b) (1 + holder_of n ds) 0) (d ∷ ds)).holds
-    go true q again l = rw (find-place n d.holds (ltb-true _ _ q))
-    go false q again l =
-        let e : 1 + holder_of n ds ≡ suc (holder_of n ds) = omega arith in
-        let le : length d.holds ≤ hold_place n d.holds = grind (arith, nat_tests) in
-        rw (e, find_none n d.holds le) (again (omega arith))
+find-holder n (d ∷ ds) lt = let again = find-holder n ds in grind (arith, nat_tests, find-place, find_none, ltb-true)
 
 pub find-named : (n : ℕ) (ds : List Disk) → holder_of n ds < length ds → find n ds ≡ Some (past (hold_named n ds))
 find-named n ds lt = find-holder n ds lt ∙ find-place n (disk_at (holder_of n ds) ds).holds (hold-there n ds lt)
 
 pub find-missing : (n : ℕ) (ds : List Disk) → length ds ≤ holder_of n ds → find n ds ≡ None
 find-missing n [] le = refl
-find-missing n (d ∷ ds) le = go (has_hold n d) refl (find-missing n ds) le
-  where
-    go : (b : Bool) → has_hold n d ≡ b → (length ds ≤ holder_of n ds → find n ds ≡ None) → suc (length ds) ≤ cond (not b) (1 + holder_of n ds) 0 → or_else (find_hold n d.holds) (find n ds) ≡ None
-    go true q again l = absurd (omega arith)
-    go false q again l =
-        let le' : length d.holds ≤ hold_place n d.holds = grind (arith, nat_tests) in
-        rw (find_none n d.holds le') (again (omega arith))
+find-missing n (d ∷ ds) le = let again = find-missing n ds in grind (arith, nat_tests, find_none)
 
 -- no disk is a copy of a hold
 pub none-copied : (n : ℕ) (ds : List Disk) → is_copied n ds ≡ false → AllByRecursion (λ d. copy_of n d.from ≡ false) ds
@@ -152,10 +125,10 @@ none-copied n (d ∷ ds) h = let p = or_parts (copy_of n d.from) (is_copied n ds
 
 -- a hold that is found is a hold of some disk
 pub find-mem : (x : ℕ) (ds : List Disk) (p : Past) → find x ds ≡ Some p → (d : Disk) × Memᴰ d ds × (find_hold x d.holds ≡ Some p)
-find-mem x [] p e = absurd (none≢some p e)
+find-mem x [] p e = absurd (none-some p e)
 find-mem x (d ∷ ds) p e = go (find_hold x d.holds) refl (find-mem x ds p) e
   where
-    go : (f : Option Past) → find_hold x d.holds ≡ f → (find x ds ≡ Some p → (k : Disk) × Memᴰ k ds × (find_hold x k.holds ≡ Some p)) → or_else f (find x ds) ≡ Some p →
+    go : (f : Option Past) → find_hold x d.holds ≡ f → (find x ds ≡ Some p → (k : Disk) × Memᴰ k ds × (find_hold x k.holds ≡ Some p)) → option_or f (find x ds) ≡ Some p →
         (k : Disk) × Memᴰ k (d ∷ ds) × (find_hold x k.holds ≡ Some p)
     go None q again e = let r = again e in (r.0, Memᴰ.tail r.1, r.2)
     go (Some p') q again e = (d, Memᴰ.head refl, q ∙ e)

@@ -1,10 +1,11 @@
 -- The numbers of a volume fit their bytes, and its limits can be reached.
 use Rattle.std.proofs.Common.{◌≡◌, ℕ, zero, suc, ◌+◌, ◌<◌, ◌≤◌, Bool, true, false, ◌&&◌, eqb, List, [], ◌∷◌, map, length, Some, None, Option, sym, refl, ap, ◌∙◌, subst, arith}
+use Rattle.std.proofs.lemmas.Bool.Decides.{nat_tests}
 use mathlib.Core.List.{Memᴰ}
 use Rattle.model.specs.Blocks.{free_all}
 use Rattle.model.specs.Bounds.{PtrFits, EntryFits, HoldFits, DiskFits, LimitsKept, LimitsReached}
 use Rattle.std.specs.List.{AllByRecursion}
-use Rattle.std.proofs.lemmas.Bool.{eq-eqb, eqb-true, and_parts, and_from}
+use Rattle.std.proofs.lemmas.Bool.{eqb-true, and_parts}
 use Rattle.rules.specs.Limits.{most_slots, moment_end, name_end}
 use Rattle.model.specs.Exactly.{Shown, by_disk, by_hold}
 use Rattle.model.specs.Gone.{map_at}
@@ -15,7 +16,7 @@ use Rattle.model.specs.Sound.{Early, Link, Line, Sound, Within}
 use Rattle.model.specs.Steps.{gone_at, start}
 use Rattle.model.specs.Sums.{bit, sum}
 use Rattle.model.specs.Volume.{Hold, Disk, Volume, since}
-use Rattle.model.specs.declared.types.Origin.{Origin}
+use Rattle.model.specs.declared.types.HoldHead.{HoldHead}
 use Rattle.model.specs.declared.types.Ptr.{Ptr}
 use Rattle.model.specs.declared.types.Slot.TheVariants.{At}
 use Rattle.model.proofs.Blocks.{length-unused}
@@ -35,7 +36,7 @@ same_ptr p r = bit (eqb p.block r.block && eqb p.birth r.birth)
 
 same-one : (p : Ptr) → same_ptr p p ≡ 1
 unfolding same_ptr
-same-one p = ap bit (and_from _ _ (eq-eqb p.block p.block refl) (eq-eqb p.birth p.birth refl))
+same-one p = grind (arith, nat_tests)
 
 sum-all : (P : Ptr → Type 0) (p : Ptr) (l : List Ptr) → ((r : Ptr) → p.block ≡ r.block → p.birth ≡ r.birth → P r → P p) → 1 ≤ sum (same_ptr p) l → AllByRecursion P l → P p
 unfolding same_ptr
@@ -56,8 +57,7 @@ all_of P [] f = tt
 all_of P (p ∷ l) f = (f p (Memᴰ.head refl), all_of P l (λ q m. f q (Memᴰ.tail m)))
 
 link_fits : (k : ℕ) (q m : Map) (g : List Ptr) → Link k q m g → AllByRecursion PtrFits (shown_by q) → AllByRecursion PtrFits g
-link_fits k q m g link a =
-    all_of PtrFits g (λ p x. sum-all PtrFits p (shown_by q) (λ r e f h. (omega (arith, h.0), omega (arith, h.1), omega (arith, h.2))) (omega (arith, link (same_ptr p), mem-one p g x)) a)
+link_fits k q m g link a = grind (arith, nat_tests, all_of, mem-one, same_ptr, sum-all)
 
 -- the entries of a map
 entries_fit : (n : ℕ) (m : Map) → rising most_slots n (map (λ e. e.slot) m) ≡ true → AllByRecursion PtrFits (shown_by m) → AllByRecursion EntryFits m
@@ -83,14 +83,14 @@ module _ (v : Volume) (inv : Sound v) (ok : Within v) where
       (i.0, omega (arith, i.1, ok.most), omega (arith, b.1, ok.moment)))
 
   -- what comes before a disk's oldest version
-  base-fits : (f : Option Origin) → AllByRecursion PtrFits (shown_by (base v.disks f).shows)
+  base-fits : (f : Option HoldHead) → AllByRecursion PtrFits (shown_by (base v.disks f).shows)
   base-fits None = tt
-  base-fits (Some o) = go (find o.hold v.disks) refl
+  base-fits (Some o) = go (find o.name v.disks) refl
     where
-      go : (f : Option Past) → find o.hold v.disks ≡ f → AllByRecursion PtrFits (shown_by (past_of f).shows)
+      go : (f : Option Past) → find o.name v.disks ≡ f → AllByRecursion PtrFits (shown_by (past_of f).shows)
       go None e = tt
       go (Some p) e =
-          let (d, h, m, mh, q, n) = found_in v inv o.hold p e in
+          let (d, h, m, mh, q, n) = found_in v inv o.name p e in
           let early = hold-early v.moment v.names (since d.from) _ d.holds d.shows d.gone h (line_of v inv d m) mh in
           subst (λ (y : Past). AllByRecursion PtrFits (shown_by y.shows)) q
           (map-fits h.shows h.moment (omega (arith, early.0)) (hold-rises v inv d h m mh) early.1 (λ s r l. by_hold d h s r m mh l refl))

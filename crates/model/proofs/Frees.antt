@@ -1,5 +1,6 @@
 -- What becomes free by changes of one disk, by rising slot.
-use Rattle.std.proofs.Common.{◌≡◌, ℕ, suc, ◌<◌, ◌≤◌, Bool, true, false, cond, ◌&&◌, ltb, leb, List, [], ◌∷◌, ◌++◌, map, length, set, refl, ap, ◌∙◌, arith}
+use Rattle.std.proofs.lemmas.Bool.Decides.{nat_tests}
+use Rattle.std.proofs.Common.{◌≡◌, ℕ, suc, ◌<◌, ◌≤◌, true, List, [], ◌∷◌, ◌++◌, length, set, refl, ap, ◌∙◌, arith}
 use Rattle.std.proofs.lemmas.List.{get_or-set_same, length-set}
 use Rattle.std.proofs.lemmas.Bool.{and_parts, leb-true, ltb-true}
 use Rattle.rules.specs.Limits.{most_slots}
@@ -16,15 +17,12 @@ use Rattle.model.specs.declared.types.Slot.TheVariants.{Empty}
 use Rattle.model.proofs.Lines.{present-rises}
 use Rattle.model.proofs.Maps.{rise-parts, rise-from, rise-none, rise-set, look-other, sum-remove}
 use Rattle.model.proofs.Moves.{Moved, moved-both, not-moved, table-moved}
-use Rattle.model.proofs.Steps.{change-usable, change-used, change-sound, change-there, change-leaves}
+use Rattle.model.proofs.Steps.{change-usable, change-used, change-sound, change-there, change-leaves, slots_of}
 use Rattle.model.proofs.Sums.{sum-append, sum-frees}
 use Rattle.model.proofs.Tables.{InUse}
 use Rattle.model.proofs.Volumes.{own-used, disk-ok}
 
 -- CHANGES BY RISING SLOT: what becomes free is what the disk showed before all of them
-abbrev slots_of : List Change → List ℕ
-slots_of cs = map (λ c. c.slot) cs
-
 freed_over : ℕ → List Change → Map → List Ptr
 freed_over k [] m = []
 freed_over k (c ∷ cs) m = frees k (shown_in (look_in c.slot m)) ++ freed_over k cs m
@@ -108,10 +106,4 @@ module _ (i : ℕ) where
 pub front-rises : (n : ℕ) (cs : List Change) → rising most_slots n (slots_of (front n cs)) ≡ true
 unfolding front
 front-rises n [] = rise-none most_slots n
-front-rises n (c ∷ cs) = go (leb n c.slot && ltb c.slot most_slots) refl (front-rises (suc c.slot) cs)
-  where
-    go : (b : Bool) → (leb n c.slot && ltb c.slot most_slots) ≡ b → rising most_slots (suc c.slot) (slots_of (front (suc c.slot) cs)) ≡ true → rising most_slots n (slots_of (cond b (c ∷ front (suc c.slot) cs) [])) ≡ true
-    go true e again =
-        let a = and_parts (leb n c.slot) (ltb c.slot most_slots) e in
-        rise-from most_slots n c.slot (slots_of (front (suc c.slot) cs)) (leb-true n c.slot a.0) (ltb-true c.slot most_slots a.1) again
-    go false e again = rise-none most_slots n
+front-rises n (c ∷ cs) = let again = front-rises (suc c.slot) cs in grind (arith, nat_tests, and_parts, leb-true, ltb-true, rise-from, rise-none)

@@ -1,17 +1,18 @@
 -- The lists of gone blocks are right.
-use Rattle.std.proofs.Common.{◌≡◌, ℕ, zero, suc, ◌+◌, ◌≤◌, Bool, true, false, eqb, List, [], ◌∷◌, length, Some, None, Option, sym, refl, ap, ◌∙◌, subst, ⊎_elim, arith}
+use Rattle.std.proofs.lemmas.Bool.Decides.{nat_tests}
+use Rattle.std.proofs.Common.{◌≡◌, ℕ, zero, suc, ◌+◌, ◌≤◌, Bool, true, false, eqb, List, [], ◌∷◌, length, Some, Option, refl, subst, arith}
 use mathlib.Core.List.Memᴰ
-use Rattle.std.proofs.lemmas.Bool.{eqb-true, eq-eqb, cases_lt}
+use Rattle.std.proofs.lemmas.Bool.{eqb-true}
 use Rattle.model.specs.Blocks.{is, used_at}
-use Rattle.model.specs.Gone.{Shows, Has, Lists, map_at, map_before, GoneRight}
-use Rattle.model.specs.Holds.{Past, find, past_of, base}
+use Rattle.model.specs.Gone.{Has, Lists, map_at, map_before, GoneRight}
+use Rattle.model.specs.Holds.{Past, find, base}
 use Rattle.model.specs.Maps.{Map, shown_by, slots_rise}
 use Rattle.model.specs.Runs.{reached}
 use Rattle.model.specs.Sound.{young, Link, Line, own_in, Known, Sound}
 use Rattle.model.specs.Steps.{gone_at}
 use Rattle.model.specs.Sums.{bit, sum}
 use Rattle.model.specs.Volume.{Hold, Volume, since}
-use Rattle.model.specs.declared.types.Origin.{Origin}
+use Rattle.model.specs.declared.types.HoldHead.{HoldHead}
 use Rattle.model.specs.declared.types.Ptr.{Ptr}
 use Rattle.model.proofs.Disks.{all-mem}
 use Rattle.model.proofs.Maps.{rise-none}
@@ -20,12 +21,11 @@ use Rattle.model.proofs.Shows.{hold-rises}
 use Rattle.model.proofs.Stays.{found_in}
 use Rattle.model.proofs.Steps.{reached-sound}
 use Rattle.model.proofs.Sums.{split, bit-most}
-use Rattle.rules.specs.Limits.{most_slots}
 
 -- a list has a block, counted
 has-sum : (b : ℕ) (g : List Ptr) → Has g b → 1 ≤ sum (is b) g
 has-sum b [] (p, m, e) = elim m [ ]
-has-sum b (x ∷ g) (p, Memᴰ.head q, e) = let one : is b x ≡ 1 = ap bit (eq-eqb x.block b (sym (ap (λ (y : Ptr). y.block) q) ∙ e)) in omega arith
+has-sum b (x ∷ g) (p, Memᴰ.head q, e) = grind (arith, nat_tests)
 has-sum b (x ∷ g) (p, Memᴰ.tail m, e) = omega (arith, has-sum b g (p, m, e))
 
 sum-has : (b : ℕ) (g : List Ptr) → 1 ≤ sum (is b) g → Has g b
@@ -38,18 +38,7 @@ sum-has b (x ∷ g) l = go (eqb x.block b) refl (sum-has b g) l
 
 -- a link, where a block is one version's own or the version before's, once
 link-lists : (k : ℕ) (q m : Map) (g : List Ptr) (b : ℕ) → slots_rise q ≡ true → slots_rise m ≡ true → Link k q m g → sum (young k (is b)) (shown_by m) + sum (is b) (shown_by q) ≤ 1 → Lists q m g b
-link-lists k q m g b rq rm link one =
-    let l = link (is b) in
-    let s = split k (is b) (shown_by m) in
-    record {
-      once = omega arith;
-      before = λ x. sum-in-map b q rq (omega (arith, has-sum b g x));
-      after = λ x y. omega (arith, has-sum b g x, in-map-sum b m y);
-      every = λ x never. sum-has b g (omega (arith, in-map-sum b q x, none m rm never));
-    }
-  where
-    none : (n : Map) → slots_rise n ≡ true → (Shows n b → ⊥) → sum (is b) (shown_by n) ≡ 0
-    none n r never = ⊎_elim (λ lt. absurd (never (sum-in-map b n r lt))) (λ le. omega arith) (cases_lt 0 (sum (is b) (shown_by n)))
+link-lists k q m g b rq rm link one = grind (arith, nat_tests, has-sum, in-map-sum, split, sum-has, sum-in-map)
 
 -- a version of a line: its link, and what it and the one before come to
 pub record Placed (w : Ptr → ℕ) (k : ℕ) (q : Map) (hs : List Hold) (m : Map) (g : List Ptr) (j : ℕ) : Type 0 where
@@ -70,20 +59,11 @@ placed now names w k q (h ∷ hs) m g (suc j) rq le ok =
     record { moment = r.moment; link = r.link; before = r.before; here = r.here; within = omega (arith, r.within) }
 
 -- the hold that a disk was copied from is there
-origin-found : (v : Volume) → Sound v → (o : Origin) → Known v.names (Some o) (base v.disks (Some o)) → (p : Past) × (find o.hold v.disks ≡ Some p) × (p.moment ≡ o.moment)
-origin-found v inv o known = go (find o.hold v.disks) refl known.2
-  where
-    go : (f : Option Past) → find o.hold v.disks ≡ f → o.moment ≡ (past_of f).moment → (p : Past) × (find o.hold v.disks ≡ Some p) × (p.moment ≡ o.moment)
-    go None e t = absurd (omega (arith, known.1))
-    go (Some p) e t = (p, e, sym t)
+origin-found : (v : Volume) → Sound v → (o : HoldHead) → Known v.names (Some o) (base v.disks (Some o)) → (p : Past) × (find o.name v.disks ≡ Some p) × (p.moment ≡ o.moment)
+origin-found v inv o known = grind (arith, nat_tests)
 
-pub base-rises : (v : Volume) → Sound v → (f : Option Origin) → slots_rise (base v.disks f).shows ≡ true
-base-rises v inv None = rise-none most_slots 0
-base-rises v inv (Some o) = go (find o.hold v.disks) refl
-  where
-    go : (f : Option Past) → find o.hold v.disks ≡ f → slots_rise (past_of f).shows ≡ true
-    go None e = rise-none most_slots 0
-    go (Some p) e = let (d, h, m, mh, q, n) = found_in v inv o.hold p e in subst (λ (y : Past). slots_rise y.shows ≡ true) q (hold-rises v inv d h m mh)
+pub base-rises : (v : Volume) → Sound v → (f : Option HoldHead) → slots_rise (base v.disks f).shows ≡ true
+base-rises v inv f = grind (arith, nat_tests, found_in, hold-rises, rise-none)
 
 pub gone-right : GoneRight
 gone-right n number calls d m =

@@ -1,8 +1,8 @@
 -- What holds of a disk's versions, one after the other, and why it holds again after each step.
-use Rattle.std.proofs.Common.{◌≡◌, ℕ, zero, suc, ◌+◌, ◌<◌, ◌≤◌, true, List, [], ◌∷◌, ◌++◌, length, sym, refl, ap, ◌∙◌, ⊎_elim, arith}
+use Rattle.std.proofs.Common.{◌≡◌, ℕ, zero, suc, ◌+◌, ◌<◌, ◌≤◌, true, List, [], ◌∷◌, ◌++◌, length, refl, ◌∙◌, arith}
 use Rattle.std.specs.List.{remove, AllByRecursion}
 use Rattle.std.proofs.ByRecursion.{All-weaker}
-use Rattle.std.proofs.lemmas.Bool.{cases_eq}
+use Rattle.std.proofs.lemmas.List.{length-map}
 use Rattle.std.proofs.lemmas.Bool.Decides.{nat_tests}
 use Rattle.rules.specs.Limits.{most_slots}
 use Rattle.model.specs.Blocks.{frees, keeps}
@@ -14,13 +14,9 @@ use Rattle.model.specs.Sums.{sum}
 use Rattle.model.specs.Volume.{Hold, hold_at, before, last_of}
 use Rattle.model.specs.declared.types.Ptr.{Ptr}
 use Rattle.model.specs.declared.types.Slot.{Slot}
-use Rattle.model.specs.declared.types.Slot.TheVariants.{Empty, At}
+use Rattle.model.specs.declared.types.Slot.TheVariants.{At}
 use Rattle.model.proofs.Maps.{rise-none, rise-set, look-set, look-other, sum-set_in, sum-remove, all-set_in, few-entries}
 use Rattle.model.proofs.Sums.{sum-append, sum-frees, sum-keeps, young-old, old-old, split, young-none, one, sum_one}
-
-pub length-shown : (m : Map) → length (shown_by m) ≡ length m
-length-shown [] = refl
-length-shown (e ∷ m) = ap suc (length-shown m)
 
 -- the moment and the names grow
 pub early-later : (t t' : ℕ) (m : Map) → t ≤ t' → Early t m → Early t' m
@@ -30,15 +26,11 @@ version-later : (t t' k : ℕ) (q m : Map) (g : List Ptr) → t ≤ t' → Versi
 version-later t t' k q m g le ok = record { later = omega (arith, ok.later); link = ok.link; agree = ok.agree; early = early-later t t' m le ok.early; rises = ok.rises }
 
 hold-later : (now now' names names' k : ℕ) (q : Map) (h : Hold) → now ≤ now' → names ≤ names' → HoldOk now names k q h → HoldOk now' names' k q h
-hold-later now now' names names' k q h a b ok = record { some = ok.some; name = omega (arith, ok.name); past = omega (arith, ok.past); version = ok.version }
+hold-later now now' names names' k q h a b ok = grind (arith, nat_tests)
 
 pub line-later : (now now' names names' k : ℕ) (q : Map) (hs : List Hold) (m : Map) (g : List Ptr) → now ≤ now' → names ≤ names' → Line now names k q hs m g → Line now' names' k q hs m g
 line-later now now' names names' k q [] m g a b ok = version-later now now' k q m g a ok
 line-later now now' names names' k q (h ∷ hs) m g a b ok = (hold-later now now' names names' k q h a b ok.0, line-later now now' names names' h.moment h.shows hs m g a b ok.1)
-
-pub last-past : (now names k : ℕ) (q : Map) (hs : List Hold) (m : Map) (g : List Ptr) → Line now names k q hs m g → last_of k hs < now
-last-past now names k q [] m g ok = ok.later
-last-past now names k q (h ∷ hs) m g ok = last-past now names h.moment h.shows hs m g ok.1
 
 -- the present's own part of a line
 pub present-rises : (now names k : ℕ) (q : Map) (hs : List Hold) (m : Map) (g : List Ptr) → Line now names k q hs m g → slots_rise m ≡ true
@@ -51,21 +43,16 @@ Born now x = AllByRecursion (λ p. p.birth ≡ now) (shown_in x)
 
 module _ (now names s : ℕ) (x : Slot) (lt : s < most_slots) (born : Born now x) where
   slot-young : (k : ℕ) → k < now → (w : Ptr → ℕ) (y : Slot) → Born now y → (sum (young k w) (shown_in y) ≡ sum w (shown_in y)) × (sum (old k w) (shown_in y) ≡ 0)
-  slot-young k less w Empty b = (refl, refl)
-  slot-young k less w (At p) b = let e = b.0 in (grind (arith, nat_tests), grind (arith, nat_tests))
+  slot-young k less w y b = grind (arith, nat_tests)
 
   slot-early : 0 < now → (y : Slot) → Born now y → AllByRecursion (λ p. (0 < p.birth) × (p.birth < now + 1)) (shown_in y)
-  slot-early begun Empty b = tt
-  slot-early begun (At p) b = ((omega (arith, b.0), omega (arith, b.0)), tt)
+  slot-early begun y b = grind (arith, nat_tests)
 
   slot-agree : (k : ℕ) → k < now → (y : Slot) → Born now y → (p : Ptr) → y ≡ At p → p.birth ≤ k → ⊥
-  slot-agree k less Empty b p e le = let z : ◌≡◌ {A = ℕ} 0 1 = cc in omega arith
-  slot-agree k less (At r) b p e le = let z : r ≡ p = cc in omega (arith, b.0, ap (λ (n : Ptr). n.birth) z)
+  slot-agree k less y b p e le = grind (arith, nat_tests)
 
   show-agree : (k : ℕ) (q m : Map) → k < now → slots_rise m ≡ true → Agree k q m → Agree k q (set_in s x m)
-  show-agree k q m less rises agree j p e le =
-      ⊎_elim (λ same. absurd (slot-agree k less x born p (sym (look-set s x m rises) ∙ ap (λ n. look_in n (set_in s x m)) (sym same) ∙ e) le))
-      (λ ne. agree j p (sym (look-other j s x m ne rises) ∙ e) le) (cases_eq j s)
+  show-agree k q m less rises agree j p e le = grind (arith, nat_tests, look-other, look-set, slot-agree)
 
   pub show-line : (k : ℕ) (q : Map) (hs : List Hold) (m : Map) (g : List Ptr) → Line now names k q hs m g →
       Line (now + 1) names k q hs (set_in s x m) (g ++ keeps (last_of k hs) (shown_in (look_in s m)))
@@ -178,7 +165,7 @@ sum-gone w same (suc j) x (h ∷ hs) = omega (arith, sum-gone w same j x hs)
 
 -- NO LIST is longer than the map before it.
 link-few : (k : ℕ) (q m : Map) (g : List Ptr) → Link k q m g → length q ≤ most_slots → length g ≤ most_slots
-link-few k q m g link few = omega (arith, link one, sum_one (shown_by q), sum_one g, length-shown q)
+link-few k q m g link few = omega (arith, link one, sum_one (shown_by q), sum_one g, length-map q (λ e. e.at))
 
 pub gone-few : (now names k : ℕ) (q : Map) (j : ℕ) (hs : List Hold) (m : Map) (g : List Ptr) → length q ≤ most_slots → Line now names k q hs m g → length (gone_at j hs g) ≤ most_slots
 gone-few now names k q j [] m g few ok = link-few k q m g ok.link few
@@ -196,5 +183,4 @@ hold-in now names k q (suc j) (h ∷ hs) m g lt ok =
 
 -- An empty disk.
 pub new_line : (now names : ℕ) → 0 < now → Line now names 0 [] [] [] []
-new_line now names lt =
-    record { later = lt; link = λ w. refl; agree = λ s p e _. e; early = tt; rises = rise-none most_slots 0 }
+new_line now names lt = grind (arith, nat_tests, rise-none)

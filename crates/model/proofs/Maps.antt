@@ -1,7 +1,9 @@
 -- Maps: what a slot shows after another was set, that slots go on rising, and what the blocks come to.
-use Rattle.std.proofs.Common.{◌≡◌, ℕ, suc, ◌+◌, ◌<◌, ◌≤◌, true, ltb, leb, List, [], ◌∷◌, map, length, sym, refl, ap, ◌∙◌, ⊎_elim, arith}
+use Rattle.std.proofs.Common.{◌≡◌, ℕ, suc, ◌+◌, ◌<◌, ◌≤◌, true, List, [], ◌∷◌, map, length, sym, refl, ◌∙◌, ⊎_elim, arith}
+use Rattle.std.proofs.lemmas.Bool.Decides.{nat_tests}
 use Rattle.std.specs.List.{AllByRecursion}
-use Rattle.std.proofs.lemmas.Bool.{lt-ltb, le-ltb, le-leb, eq-eqb, ne_eqb, leb-true, ltb-true, and_parts, and_from, cases_order}
+use Rattle.std.proofs.lemmas.List.{length-map}
+use Rattle.std.proofs.lemmas.Bool.{lt-ltb, le-ltb, eq-eqb, cases_order}
 use Rattle.rules.specs.Limits.{most_slots}
 use Rattle.model.specs.Maps.{Map, look_in, put_in, remove_in, set_in, shown_in, shown_by, entry, rising, slots_rise}
 use Rattle.model.specs.Sums.{sum}
@@ -14,14 +16,11 @@ use Rattle.model.specs.declared.types.Slot.TheVariants.{Empty, At}
 module _ (end n x : ℕ) (xs : List ℕ) where
   pub rise-parts : rising end n (x ∷ xs) ≡ true → (n ≤ x) × (x < end) × (rising end (suc x) xs ≡ true)
   unfolding rising
-  rise-parts h =
-      let a = and_parts (leb n x) _ h in
-      let b = and_parts (ltb x end) (rising end (suc x) xs) a.1 in
-      (leb-true n x a.0, ltb-true x end b.0, b.1)
+  rise-parts h = grind (arith, nat_tests)
 
   pub rise-from : n ≤ x → x < end → rising end (suc x) xs ≡ true → rising end n (x ∷ xs) ≡ true
   unfolding rising
-  rise-from lo hi h = and_from (leb n x) _ (le-leb n x lo) (and_from (ltb x end) (rising end (suc x) xs) (lt-ltb x end hi) h)
+  rise-from lo hi h = grind (arith, nat_tests)
 
 pub rise-none : (end n : ℕ) → rising end n [] ≡ true
 unfolding rising
@@ -40,11 +39,7 @@ slots es = map (λ e. e.slot) es
 
 -- there are no more entries than slots
 pub few-entries : (es : Map) → slots_rise es ≡ true → length es ≤ most_slots
-few-entries es h = omega (arith, rise-length most_slots 0 (slots es) (omega arith) h, length-slots es)
-  where
-    length-slots : (fs : Map) → length (slots fs) ≡ length fs
-    length-slots [] = refl
-    length-slots (f ∷ fs) = ap suc (length-slots fs)
+few-entries es h = omega (arith, rise-length most_slots 0 (slots es) (omega arith) h, length-map es (λ e. e.slot))
 
 -- the three orders in which an entry's slot and another can stand, and what a look, a put and a remove do then
 module _ (s : ℕ) (e : Entry) (es : Map) where
@@ -58,7 +53,7 @@ module _ (s : ℕ) (e : Entry) (es : Map) where
 
   pub look-above : s < e.slot → look_in s (e ∷ es) ≡ Empty
   unfolding look_in
-  look-above h = rw (le-ltb e.slot s (omega arith), ne_eqb e.slot s (λ q. omega arith))
+  look-above h = grind (arith, nat_tests)
 
   pub put-past : (p : Ptr) → e.slot < s → put_in s p (e ∷ es) ≡ e ∷ put_in s p es
   unfolding put_in
@@ -70,7 +65,7 @@ module _ (s : ℕ) (e : Entry) (es : Map) where
 
   pub put-above : (p : Ptr) → s < e.slot → put_in s p (e ∷ es) ≡ entry s p ∷ (e ∷ es)
   unfolding put_in
-  put-above p h = rw (le-ltb e.slot s (omega arith), ne_eqb e.slot s (λ q. omega arith))
+  put-above p h = grind (arith, nat_tests)
 
   pub remove-past : e.slot < s → remove_in s (e ∷ es) ≡ e ∷ remove_in s es
   unfolding remove_in
@@ -82,7 +77,7 @@ module _ (s : ℕ) (e : Entry) (es : Map) where
 
   pub remove-above : s < e.slot → remove_in s (e ∷ es) ≡ e ∷ es
   unfolding remove_in
-  remove-above h = rw (le-ltb e.slot s (omega arith), ne_eqb e.slot s (λ q. omega arith))
+  remove-above h = grind (arith, nat_tests)
 
   -- to show something of a map with this entry, show it for each order
   pub by_order : (P : Type 0) → (e.slot ≡ s → P) → (e.slot < s → P) → (s < e.slot → P) → P
@@ -118,8 +113,7 @@ rise-remove n s (e ∷ es) h =
     (λ x. rw (remove-above s e es x) h)
 
 pub rise-set : (s : ℕ) (x : Slot) (es : Map) → s < most_slots → slots_rise es ≡ true → slots_rise (set_in s x es) ≡ true
-rise-set s Empty es lt h = rise-remove 0 s es h
-rise-set s (At p) es lt h = rise-put 0 s p es (omega arith) lt h
+rise-set s x es lt h = grind (arith, nat_tests, rise-put, rise-remove)
 
 -- the slot that was set shows it
 put_same : (s : ℕ) (p : Ptr) (es : Map) → look_in s (put_in s p es) ≡ At p
@@ -140,19 +134,15 @@ remove-same n s (e ∷ es) h =
     (λ x. rw (remove-above s e es x) (look-above s e es x))
 
 pub look-set : (s : ℕ) (x : Slot) (es : Map) → slots_rise es ≡ true → look_in s (set_in s x es) ≡ x
-look-set s Empty es h = remove-same 0 s es h
-look-set s (At p) es h = put_same s p es
+look-set s x es h = grind (arith, nat_tests, put_same, remove-same)
 
 -- and another shows what it showed
 look-cons : (j : ℕ) (e : Entry) (es fs : Map) → look_in j es ≡ look_in j fs → look_in j (e ∷ es) ≡ look_in j (e ∷ fs)
-look-cons j e es fs h =
-    by_order j e es _ (λ x. look-here j e es x ∙ sym (look-here j e fs x)) (λ x. look-past j e es x ∙ h ∙ sym (look-past j e fs x)) (λ x. look-above j e es x ∙ sym (look-above j e fs x))
+look-cons j e es fs h = grind (arith, nat_tests, by_order, look-above, look-here, look-past)
 
 -- an entry of another slot in front is not seen, if what is behind it has no lower slot
 look_skip : (j s : ℕ) (p : Ptr) (es : Map) → (j ≡ s → ⊥) → rising most_slots s (slots es) ≡ true → look_in j (entry s p ∷ es) ≡ look_in j es
-look_skip j s p es ne h =
-    by_order j (entry s p) es _ (λ x. absurd (ne (sym x))) (λ x. look-past j (entry s p) es x)
-    (λ x. look-above j (entry s p) es x ∙ sym (look-below s j es x h))
+look_skip j s p es ne h = grind (arith, nat_tests, by_order, look-above, look-below, look-past)
 
 put_other : (n j s : ℕ) (p : Ptr) (es : Map) → (j ≡ s → ⊥) → rising most_slots n (slots es) ≡ true → look_in j (put_in s p es) ≡ look_in j es
 unfolding put_in
@@ -177,8 +167,7 @@ remove-other n j s (e ∷ es) ne h =
     (λ x. rw (remove-above s e es x))
 
 pub look-other : (j s : ℕ) (x : Slot) (es : Map) → (j ≡ s → ⊥) → slots_rise es ≡ true → look_in j (set_in s x es) ≡ look_in j es
-look-other j s Empty es ne h = remove-other 0 j s es ne h
-look-other j s (At p) es ne h = put_other 0 j s p es ne h
+look-other j s x es ne h = grind (arith, nat_tests, put_other, remove-other)
 
 -- what the blocks of a map come to
 sum-put : (w : Ptr → ℕ) (s : ℕ) (p : Ptr) (es : Map) → sum w (shown_by (put_in s p es)) + sum w (shown_in (look_in s es)) ≡ sum w (shown_by es) + w p
@@ -198,8 +187,7 @@ sum-remove w s (e ∷ es) =
     (λ x. rw (remove-above s e es x, look-above s e es x) (omega arith))
 
 pub sum-set_in : (w : Ptr → ℕ) (s : ℕ) (x : Slot) (es : Map) → sum w (shown_by (set_in s x es)) + sum w (shown_in (look_in s es)) ≡ sum w (shown_by es) + sum w (shown_in x)
-sum-set_in w s Empty es = omega (arith, sum-remove w s es)
-sum-set_in w s (At p) es = omega (arith, sum-put w s p es)
+sum-set_in w s x es = grind (arith, nat_tests, sum-put, sum-remove)
 
 -- what holds of each block of a map
 all-put : (P : Ptr → Type 0) (s : ℕ) (p : Ptr) (es : Map) → P p → AllByRecursion P (shown_by es) → AllByRecursion P (shown_by (put_in s p es))

@@ -1,20 +1,21 @@
 -- What the tests mean by which calls are refused.
-use Rattle.std.proofs.Common.{◌≡◌, ℕ, zero, suc, ◌+◌, ◌<◌, ◌≤◌, Bool, true, false, cond, not, ◌||◌, eqb, leb, List, [], ◌∷◌, length, Some, None, Decides, Option, sym, refl, ap, ◌∙◌, ⊎_elim, arith}
+use Rattle.std.proofs.Common.{◌≡◌, ℕ, zero, suc, ◌<◌, ◌≤◌, Bool, true, not, ◌||◌, eqb, leb, List, [], ◌∷◌, length, Some, None, Decides, Option, sym, refl, ap, ◌∙◌, ⊎_elim, arith}
 use mathlib.Core.List.{Memᴰ}
 use Rattle.model.specs.Blocks.{is_free, use_at, lowest_in}
 use Rattle.std.specs.List.{prefix_len}
 use Rattle.std.proofs.lemmas.List.{nil_from_length}
-use Rattle.std.proofs.lemmas.Bool.{true≢false, and_parts, and_from, eq-eqb, eqb-true, cases_lt, leb-true, le-leb, lt-leb, or_cases, or_left, or_right}
+use Rattle.std.specs.Option.{is_none}
+use Rattle.std.proofs.lemmas.Bool.{true≢false, and_parts, and_from, eq-eqb, eqb-true, lt-leb, or_cases, or_right}
 use Rattle.std.proofs.lemmas.Bool.Decides.{nat_tests}
 use Rattle.model.specs.Refusals.{Meaning}
-use Rattle.model.specs.Tests.{changes_rise, follows, no_holds, same_mark, has_mark, is_none, is_new}
+use Rattle.model.specs.Tests.{changes_rise, follows, no_holds, has_mark, is_new}
 use Rattle.model.specs.Volume.{Hold, Disk, blank, no_hold, disk_at, hold_at, place_of, hold_place, has_hold, holder_of, copy_of, is_copied}
+use Rattle.model.specs.declared.types.HoldHead.{HoldHead}
 use Rattle.model.specs.declared.types.Mark.{Mark}
-use Rattle.model.specs.declared.types.Origin.{Origin}
 use Rattle.model.specs.declared.types.Use.{Use}
-use Rattle.model.specs.declared.types.Use.TheVariants.{Reserved, Free, Used, Freed}
+use Rattle.model.specs.declared.types.Use.TheVariants.{Free}
 use Rattle.model.proofs.Blocks.{lowest-free}
-use Rattle.model.proofs.Disks.{none≢some, mem-at, disk-name, holds_there, hold-there, hold-name}
+use Rattle.model.proofs.Disks.{mem-at, disk-name, holds_there, hold-there, hold-name}
 use Rattle.model.proofs.Moves.{is_free_lem}
 use Rattle.model.proofs.Tables.{free-there}
 
@@ -22,68 +23,43 @@ use Rattle.model.proofs.Tables.{free-there}
 -- a search that finds nothing passes everything by
 passed : {X : Type 0} (p : X → Bool) (xs : List X) (x : X) → length xs ≤ prefix_len p xs → Memᴰ x xs → p x ≡ true
 passed p [] x le m = elim m [ ]
-passed p (y ∷ xs) x le m = go (p y) refl (passed p xs x) le m
-  where
-    go : (b : Bool) → p y ≡ b → (length xs ≤ prefix_len p xs → Memᴰ x xs → p x ≡ true) → suc (length xs) ≤ cond b (1 + prefix_len p xs) 0 → Memᴰ x (y ∷ xs) → p x ≡ true
-    go true q again l (Memᴰ.head e) = ap p e ∙ q
-    go true q again l (Memᴰ.tail k) = again (omega arith) k
-    go false q again l k = absurd (omega arith)
+passed p (y ∷ xs) x le (Memᴰ.head e) = grind (arith, nat_tests)
+passed p (y ∷ xs) x le (Memᴰ.tail m) = let again : length xs ≤ prefix_len p xs → p x ≡ true = λ l. passed p xs x l m in grind (arith, nat_tests)
 
 by_place : (n : ℕ) (a : ℕ) (P : Type 0) → (n ≤ a → P) → (a < n → P → ⊥) → Decides (leb n a) P
-by_place n a P all some = (λ h. all (leb-true n a h), λ p. ⊎_elim (λ lt. absurd (some lt p)) (λ le. le-leb n a le) (cases_lt a n))
+by_place n a P all some = grind (arith, nat_tests)
 
 unnamed : (x n : ℕ) → not (eqb x n) ≡ true → x ≡ n → ⊥
 unnamed x n h e = true≢false (sym h ∙ ap not (eq-eqb x n e))
 
 none_free : (us : List Use) (b : ℕ) → b < lowest_in us → use_at b us ≡ Free → ⊥
 none_free [] b lt e = omega arith
-none_free (u ∷ us) b lt e = go u b (λ k. none_free us k) lt e
-  where
-    go : (w : Use) (c : ℕ) → ((k : ℕ) → k < lowest_in us → use_at k us ≡ Free → ⊥) → c < cond (not (is_free w)) (1 + lowest_in us) 0 → use_at c (w ∷ us) ≡ Free → ⊥
-    go Free c again l q = omega arith
-    go Reserved zero again l q = true≢false (sym (ap is_free q))
-    go Reserved (suc c) again l q = again c (omega arith) q
-    go Used zero again l q = true≢false (sym (ap is_free q))
-    go Used (suc c) again l q = again c (omega arith) q
-    go Freed zero again l q = true≢false (sym (ap is_free q))
-    go Freed (suc c) again l q = again c (omega arith) q
+none_free (u ∷ us) zero lt e = grind (arith, nat_tests)
+none_free (u ∷ us) (suc b) lt e = let again = none_free us b in grind (arith, nat_tests)
 
 free-inside : (us : List Use) (b : ℕ) → use_at b us ≡ Free → b < length us
 free-inside us b e = free-there b us (ap is_free e)
 
-copied-by : (h : ℕ) (f : Option Origin) → copy_of h f ≡ true → (o : Origin) × (f ≡ Some o) × (o.hold ≡ h)
-copied-by h None e = absurd (true≢false (sym e))
-copied-by h (Some o) e = (o, refl, eqb-true o.hold h e)
+copied-by : (h : ℕ) (f : Option HoldHead) → copy_of h f ≡ true → (o : HoldHead) × (f ≡ Some o) × (o.name ≡ h)
+copied-by h f e = grind (arith, nat_tests)
 
-copied-mem : (h : ℕ) (ds : List Disk) → is_copied h ds ≡ true → (e : Disk) × (o : Origin) × Memᴰ e ds × (e.from ≡ Some o) × (o.hold ≡ h)
-copied-mem h [] e = absurd (true≢false (sym e))
+copied-mem : (h : ℕ) (ds : List Disk) → is_copied h ds ≡ true → (e : Disk) × (o : HoldHead) × Memᴰ e ds × (e.from ≡ Some o) × (o.name ≡ h)
+copied-mem h [] e = absurd cc
 copied-mem h (d ∷ ds) e =
     ⊎_elim (λ x. let r = copied-by h d.from x in (d, r.0, Memᴰ.head refl, r.1, r.2)) (λ x. let r = copied-mem h ds x in (r.0, r.1, Memᴰ.tail r.2, r.3, r.4))
     (or_cases (copy_of h d.from) (is_copied h ds) e)
 
-mem_copied : (h : ℕ) (ds : List Disk) (e : Disk) (o : Origin) → Memᴰ e ds → e.from ≡ Some o → o.hold ≡ h → is_copied h ds ≡ true
+mem_copied : (h : ℕ) (ds : List Disk) (e : Disk) (o : HoldHead) → Memᴰ e ds → e.from ≡ Some o → o.name ≡ h → is_copied h ds ≡ true
 mem_copied h [] e o m f q = elim m [ ]
-mem_copied h (d ∷ ds) e o (Memᴰ.head x) f q = or_left _ _ (ap (copy_of h) (sym (ap (λ (y : Disk). y.from) x) ∙ f) ∙ eq-eqb o.hold h q)
+mem_copied h (d ∷ ds) e o (Memᴰ.head x) f q = grind (arith, nat_tests)
 mem_copied h (d ∷ ds) e o (Memᴰ.tail m) f q = or_right _ _ (mem_copied h ds e o m f q)
 
 -- marks
-same-mark : (a b : Mark) → Decides (same_mark a b) (a ≡ b)
-same-mark a b = (
-  (λ h.
-      let p = and_parts (eqb a.number b.number) (eqb a.moment b.moment) h in
-      let n = eqb-true a.number b.number p.0 in
-      let t = eqb-true a.moment b.moment p.1 in
-      λ i. record { number = n i; moment = t i }),
-  λ e. and_from _ _ (eq-eqb a.number b.number (ap (λ (m : Mark). m.number) e)) (eq-eqb a.moment b.moment (ap (λ (m : Mark). m.moment) e)),
-)
-
 has-mark : (m : Mark) (o : Option Mark) → Decides (has_mark o m) (o ≡ Some m)
-has-mark m None = ((λ h. absurd (true≢false (sym h))), λ e. absurd (none≢some m e))
-has-mark m (Some n) = ((λ h. ap Some ((same-mark n m).0 h)), λ e. let q : n ≡ m = cc in (same-mark n m).1 q)
+has-mark m o = grind (arith, nat_tests)
 
 is-none : {X : Type 0} (o : Option X) → Decides (is_none o) (o ≡ None)
-is-none None = ((λ _. refl), λ _. refl)
-is-none (Some x) = ((λ h. absurd (true≢false (sym h))), λ e. absurd (none≢some x (sym e)))
+is-none o = grind (arith, nat_tests)
 
 is-empty : {X : Type 0} (xs : List X) → Decides (eqb (length xs) 0) (xs ≡ [])
 is-empty xs = ((λ h. nil_from_length xs (eqb-true (length xs) 0 h)), λ e. eq-eqb (length xs) 0 (ap length e))
@@ -100,10 +76,7 @@ is-new d = (
 
 -- a stream that fits
 fits : (w r f : Bool) → Decides (not (not w || (not r || not f))) ((w ≡ true) × (r ≡ true) × (f ≡ true))
-fits true true true = ((λ _. (refl, refl, refl)), λ _. refl)
-fits true true false = ((λ h. absurd (true≢false (sym h))), λ x. absurd (true≢false (sym x.2)))
-fits true false f = ((λ h. absurd (true≢false (sym h))), λ x. absurd (true≢false (sym x.1)))
-fits false r f = ((λ h. absurd (true≢false (sym h))), λ x. absurd (true≢false (sym x.0)))
+fits w r f = grind (arith, nat_tests)
 
 pub meaning : Meaning
 meaning v =

@@ -1,19 +1,18 @@
 -- No name is given twice.
 use Rattle.std.proofs.Common.{◌≡◌, ℕ, ◌+◌, ◌<◌, ◌≤◌, Bool, true, false, ◌⊎◌, List, [], ◌∷◌, length, Some, None, Ok, Option, Result, sym, refl, ap, ◌∙◌, inl, inr, ⊎_elim, arith}
-use Rattle.model.specs.Calls.{Query, Call, write, clear, hold, release, copy, new, drop, take, sync, would, read, readhold, free, Value, done, name, count, slot, Done, ask}
+use Rattle.std.proofs.lemmas.Bool.Decides.{nat_tests}
+use Rattle.model.specs.Calls.{Query, Call, write, clear, hold, release, copy, new, drop, take, sync, Value, done, name, count, slot, Done, ask}
 use Rattle.model.specs.Holds.{named, names_in}
-use Rattle.std.specs.List.{remove}
-use Rattle.std.proofs.lemmas.Bool.{eq-eqb, ne_eqb, true≢false, cases_eq, cases_lt, or_parts}
+use Rattle.std.proofs.lemmas.Bool.{eq-eqb, ne_eqb, cases_eq, cases_lt, or_parts}
 use Rattle.rules.specs.declared.refusal.Refusal.{Refusal}
 use Rattle.model.specs.Runs.{told, refusal, reasons, does, step, run, reached}
 use Rattle.model.specs.Sound.{Sound}
 use Rattle.model.specs.Stays.{times, NamesOnce}
-use Rattle.model.specs.Steps.{change, released, showing, slot_for}
-use Rattle.model.specs.Steps.{Change, change_at, changes_at, holds_at, hold_of, held, joined}
+use Rattle.model.specs.Steps.{change, showing, slot_for}
+use Rattle.model.specs.Steps.{Change, change_at, changes_at, holds_at}
 use Rattle.model.specs.Sums.{bit}
-use Rattle.model.specs.Tests.{front, no_slot}
-use Rattle.model.specs.Volume.{Hold, Volume, blank, no_hold, disk_at, place_of, hold_place, holder_of}
-use Rattle.model.specs.declared.types.HoldHead.{HoldHead}
+use Rattle.model.specs.Tests.{no_slot}
+use Rattle.model.specs.Volume.{Volume, blank, disk_at, place_of, holder_of}
 use Rattle.model.specs.declared.types.Mark.{Mark}
 use Rattle.model.proofs.Disks.{disk-there, disk-name, holder-there, hold-there, hold-name}
 use Rattle.model.proofs.Lines.{sum-gone}
@@ -33,24 +32,10 @@ changes-times i (c ∷ cs) v x lt =
     omega (arith, changes-times i cs (change_at i c v) x (rw (changes-there i (c ∷ []) v) lt), sum-set (names_in x) v.disks i (showing c.slot (slot_for c.bytes v) (disk_at i v.disks)) blank lt)
 
 hold-times : (i : ℕ) (m : Option Mark) (v : Volume) (x : ℕ) → i < length v.disks → times x (holds_at i m v) ≡ times x v + named x v.names
-hold-times i m v x lt =
-    let d = disk_at i v.disks in
-    let h : HoldHead = record { name = v.names; moment = v.moment } in
-    omega (arith, sum-set (names_in x) v.disks i (held h m d) blank lt, sum-push (λ (g : Hold). named x g.name) d.holds (hold_of h d))
+hold-times i m v x lt = grind (arith, nat_tests, sum-push, sum-set)
 
 release-times : (v : Volume) (h x : ℕ) → holder_of h v.disks < length v.disks → times x (does (release h) v).leaves + named x h ≡ times x v
-release-times v h x lt =
-    let i = holder_of h v.disks in
-    let d = disk_at i v.disks in
-    let k = hold_place h d.holds in
-    let w : Hold → ℕ = λ (g : Hold). named x g.name in
-    omega (
-      arith,
-      sum-set (names_in x) v.disks i (released k d) blank lt,
-      sum-gone w (λ g y. refl) k (joined k d) (remove d.holds k),
-      sum-removed w d.holds k no_hold (hold-there h v.disks lt),
-      ap (named x) (hold-name h v.disks lt),
-    )
+release-times v h x lt = grind (arith, nat_tests, hold-name, hold-there, sum-gone, sum-removed, sum-set)
 
 new-named : (x n t : ℕ) → t + (named x n + 0) ≡ t + named x n
 new-named x n t = omega arith
@@ -63,11 +48,7 @@ does-more (release h) v x no' = inl (omega (arith, release-times v h x (holder-t
 does-more (copy h) v x no' = inr (sum-push (names_in x) v.disks _ ∙ new-named x v.names (times x v), refl)
 does-more new v x no' = inr (sum-push (names_in x) v.disks _ ∙ new-named x v.names (times x v), refl)
 does-more (drop d) v x no' = inl (omega (arith, sum-removed (names_in x) v.disks (place_of d v.disks) blank (disk-there d v.disks no'.0)))
-does-more (take d st) v x no' =
-    let i = place_of d v.disks in
-    let cs = front 0 st.changes in
-    let lt = disk-there d v.disks no'.0 in
-    inr (omega (arith, hold-times i (Some st.newer) (changes_at i cs v) x (rw (changes-there i cs v) lt), changes-times i cs v x lt, ap (named x) (changes-names i cs v)), omega (arith, changes-names i cs v))
+does-more (take d st) v x no' = grind (arith, nat_tests, changes-names, changes-there, changes-times, disk-there, hold-times)
 does-more sync v x no' = inl (omega arith)
 does-more (ask q) v x no' = inl (omega arith)
 
@@ -75,16 +56,7 @@ step-more : (c : Call) (v : Volume) (x : ℕ) → More c v x (step c v).leaves
 step-more c v x = by-step (λ y. More c v x y.leaves) c v (λ r _. inl (omega arith)) (does-more c v x)
 
 does-names : (c : Call) (v : Volume) → v.names ≤ (does c v).leaves.names
-does-names (write d s bs) v = omega arith
-does-names (clear d s) v = omega arith
-does-names (hold d) v = omega arith
-does-names (release h) v = omega arith
-does-names (copy h) v = omega arith
-does-names new v = omega arith
-does-names (drop d) v = omega arith
-does-names (take d st) v = omega (arith, changes-names (place_of d v.disks) (front 0 st.changes) v)
-does-names sync v = omega arith
-does-names (ask q) v = omega arith
+does-names c v = grind (arith, nat_tests, changes-names)
 
 step-names : (c : Call) (v : Volume) → v.names ≤ (step c v).leaves.names
 step-names c v = by-step (λ y. v.names ≤ y.leaves.names) c v (λ r _. omega arith) (λ _. does-names c v)
@@ -110,39 +82,18 @@ is_name (count n) = false
 is_name (slot x) = false
 
 told_none : (q : Query) (v : Volume) → is_name (told q v) ≡ false
-told_none (would h) v = refl
-told_none (read d s) v = refl
-told_none (readhold h s) v = refl
-told_none free v = refl
+told_none q v = grind (arith, nat_tests)
 
 not-name : (a : Value) (x : ℕ) → is_name a ≡ false → ◌≡◌ {A = Result Value Refusal} (Ok a) (Ok (name x)) → ⊥
-not-name a x e h = let same : a ≡ name x = cc in true≢false (sym (ap is_name same) ∙ e)
+not-name a x e h = grind (arith, nat_tests)
 
 -- the answer tells the new name
 told-name : (c : Call) (v : Volume) → Sound v → (x : ℕ) → NoneApplies (reasons c v) → (does c v).answer ≡ Ok (name x) → (x ≡ v.names) × (times x (does c v).leaves ≡ 1)
-told-name c v inv x no' e = go c no' e
-  where
-    by_name : (w : Volume) → ◌≡◌ {A = Result Value Refusal} (Ok (name v.names)) (Ok (name x)) → times x w ≡ times x v + named x v.names → (x ≡ v.names) × (times x w ≡ 1)
-    by_name w h t = let q : x ≡ v.names = cc in (q, omega (arith, t, unnamed v inv x (omega arith), ap bit (eq-eqb v.names x (sym q))))
-
-    go : (k : Call) → NoneApplies (reasons k v) → (does k v).answer ≡ Ok (name x) → (x ≡ v.names) × (times x (does k v).leaves ≡ 1)
-    go (write d s bs) n h = absurd (not-name done x refl h)
-    go (clear d s) n h = absurd (not-name done x refl h)
-    go (hold d) n h = by_name (does (hold d) v).leaves h (hold-times (place_of d v.disks) _ v x (disk-there d v.disks n.0))
-    go (release k) n h = absurd (not-name done x refl h)
-    go (copy k) n h = by_name (does (copy k) v).leaves h (sum-push (names_in x) v.disks _ ∙ new-named x v.names (times x v))
-    go new n h = by_name (does new v).leaves h (sum-push (names_in x) v.disks _ ∙ new-named x v.names (times x v))
-    go (drop d) n h = absurd (not-name done x refl h)
-    go (take d st) n h = absurd (not-name (count _) x refl h)
-    go sync n h = absurd (not-name done x refl h)
-    go (ask q) n h = absurd (not-name (told q v) x (told_none q v) h)
+told-name c v inv x no' e = grind (arith, nat_tests, NoneApplies, disk-there, eq-eqb, hold-times, new-named, not-name, sum-push, told_none, unnamed)
 
 -- the name that was answered is the next one
 pub named-next : (c : Call) (v : Volume) (n : ℕ) → (does c v).answer ≡ Ok (name v.names) → (step c v).answer ≡ Ok (name n) → refusal (reasons c v) ≡ None → n ≡ v.names
-named-next c v n a h none =
-    let q : Ok (name v.names) ≡ Ok (name n) = sym (ap (λ (x : Done). x.answer) (done-step c v none) ∙ a) ∙ h in
-    let r : v.names ≡ n = cc in
-    sym r
+named-next c v n a h none = grind (arith, nat_tests)
 
 -- the disk that is dropped has its name
 drop-times : (v : Volume) (d x : ℕ) → place_of d v.disks < length v.disks → times x (does (drop d) v).leaves + named x d ≤ times x v

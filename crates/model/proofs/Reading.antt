@@ -1,12 +1,13 @@
 -- What was written is read, and everything else reads as before.
-use Rattle.std.proofs.Common.{◌≡◌, ℕ, suc, ◌<◌, Bool, true, false, cond, ◌&&◌, ltb, leb, List, [], ◌∷◌, length, set, Some, None, Ok, Err, Option, Result, sym, refl, ap, ◌∙◌, subst, ⊎_elim, arith}
+use Rattle.std.proofs.lemmas.Bool.Decides.{nat_tests}
+use Rattle.std.proofs.Common.{◌≡◌, ℕ, suc, ◌<◌, true, cond, List, [], ◌∷◌, length, set, Some, None, Ok, Err, Option, Result, sym, refl, ap, ◌∙◌, subst, ⊎_elim, arith}
 use Rattle.std.specs.List.{AllByRecursion}
 use Rattle.std.proofs.lemmas.Bool.{or_parts, cases_eq, eq-eqb, lt-leb}
 use Rattle.rules.specs.Limits.{most_slots}
 use Rattle.rules.specs.declared.refusal.Refusal.{Refusal}
 use Rattle.rules.specs.declared.refusal.Refusal.TheVariants.{Missing}
 use Rattle.model.specs.Blocks.{lowest_in, used_at}
-use Rattle.model.specs.Calls.{Call, write, clear, hold, release, copy, new, drop, take, sync, done, name, slot, Done, ask}
+use Rattle.model.specs.Calls.{Call, write, clear, hold, release, copy, new, drop, take, sync, done, name, Done, ask}
 use Rattle.model.specs.Exactly.{by_disk, by_hold}
 use Rattle.model.specs.Holds.{Past, find}
 use Rattle.model.specs.Maps.{Map, look_in, set_in, slots_rise}
@@ -21,8 +22,7 @@ use Rattle.model.specs.Volume.{Disk, Volume, blank, disk_at, place_of, holder_of
 use Rattle.model.specs.declared.types.HoldHead.{HoldHead}
 use Rattle.model.specs.declared.types.Mark.{Mark}
 use Rattle.model.specs.declared.types.Ptr.{Ptr}
-use Rattle.model.specs.declared.types.Slot.{Slot}
-use Rattle.model.specs.declared.types.Slot.TheVariants.{Empty, At}
+use Rattle.model.specs.declared.types.Slot.TheVariants.{At}
 use Rattle.model.proofs.Disks.{disk-there, disk-name, holder-there, find-named, mem-at}
 use Rattle.model.proofs.Lines.{present-rises}
 use Rattle.model.proofs.Maps.{rise-set, look_none, look-set, look-other}
@@ -48,24 +48,15 @@ read-in : (f : Bytes) (m : Map) (j : ℕ) → j < most_slots → read_map f (Som
 read-in f m j lt = rw (lt-leb most_slots j lt)
 
 -- two maps, with two devices' bytes, that read the same in a slot
-same_bytes : (f g : Bytes) (x : Slot) → ((p : Ptr) → x ≡ At p → g p.block ≡ f p.block) → bytes_of g x ≡ bytes_of f x
-same_bytes f g Empty h = refl
-same_bytes f g (At p) h = h p refl
-
 read_same : (f g : Bytes) (m n : Map) (j : ℕ) → look_in j n ≡ look_in j m → ((p : Ptr) → look_in j m ≡ At p → g p.block ≡ f p.block) → read_map g (Some n) j ≡ read_map f (Some m) j
-read_same f g m n j e h = go (no_slot j)
-  where
-    go : (b : Bool) → read_by g (cond b (Err Missing) (Ok (slot (look_in j n)))) ≡ read_by f (cond b (Err Missing) (Ok (slot (look_in j m))))
-    go true = refl
-    go false = ap Ok (ap (bytes_of g) e ∙ same_bytes f g (look_in j m) h)
+read_same f g m n j e h = grind (arith, nat_tests)
 
 err≢ok : {X : Type 0} (r : Refusal) (a : X) → ◌≡◌ {A = Result X Refusal} (Err r) (Ok a) → ⊥
-err≢ok r a e = let z : ◌≡◌ {A = ℕ} 0 1 = cc in omega arith
+err≢ok r a e = cc
 
 -- a read that is answered read a map
 some-map : (f : Bytes) (m : Option Map) (j : ℕ) (bs : List ℕ) → read_map f m j ≡ Ok bs → (n : Map) × (m ≡ Some n)
-some-map f None j bs e = absurd (err≢ok Missing bs e)
-some-map f (Some n) j bs e = (n, refl)
+some-map f m j bs e = grind (arith, nat_tests)
 
 -- WHAT A DISK SHOWS in a slot that calls leave alone
 pub record Kept (y j : ℕ) (m : Map) (ds : List Disk) : Type 0 where
@@ -112,11 +103,7 @@ hold-seen i m v y = seen_same map_in y v.disks i (held (record { name = v.names;
 all-front : (P : Change → Type 0) (n : ℕ) (cs : List Change) → AllByRecursion P cs → AllByRecursion P (front n cs)
 unfolding front
 all-front P n [] a = tt
-all-front P n (c ∷ cs) a = go (leb n c.slot && ltb c.slot most_slots) (all-front P (suc c.slot) cs a.1)
-  where
-    go : (b : Bool) → AllByRecursion P (front (suc c.slot) cs) → AllByRecursion P (cond b (c ∷ front (suc c.slot) cs) [])
-    go true again = (a.0, again)
-    go false again = tt
+all-front P n (c ∷ cs) a = let again = all-front P (suc c.slot) cs a.1 in grind (arith, nat_tests)
 
 does-kept : (c : Call) (v : Volume) (y j : ℕ) (m : Map) → Sound v → NoneApplies (reasons c v) → Leaves c y j → seen y v.disks ≡ Some m → Kept y j m (does c v).leaves.disks
 does-kept (write d s bs) v y j m inv no' l e =
@@ -202,7 +189,7 @@ module _ (t : Store) (inv : Sound t.volume) where
 
   -- a call that writes nothing
   quiet : (c : Call) → (does c t.volume).puts ≡ [] → refusal (reasons c t.volume) ≡ None → play c t ≡ record { volume = (does c t.volume).leaves; bytes = t.bytes }
-  quiet c p none = ap (λ (x : Done). record { volume = x.leaves; bytes = laid x.puts t.bytes }) (done-step c t.volume none) ∙ ap (λ ps. record { volume = (does c t.volume).leaves; bytes = laid ps t.bytes }) p
+  quiet c p none = grind (arith, nat_tests)
 
   empty : (n j : ℕ) → (step new t.volume).answer ≡ Ok (name n) → j < most_slots → reads n j (play new t) ≡ Ok zeros
   empty n j h lt =

@@ -1,42 +1,24 @@
 -- A call is refused by the lowest number that applies, and changes nothing then.
-use Rattle.std.proofs.Common.{◌≡◌, ℕ, suc, ◌<◌, ◌≤◌, Bool, true, false, cond, List, [], ◌∷◌, map, Some, None, Ok, Err, Option, Result, sym, refl, ap, ◌∙◌, arith}
+use Rattle.std.proofs.Common.{◌≡◌, ℕ, suc, ◌<◌, ◌≤◌, Bool, true, false, cond, List, [], ◌∷◌, map, Some, None, Ok, Err, Option, sym, refl, ap, ◌∙◌, arith}
+use Rattle.std.proofs.lemmas.Bool.Decides.{nat_tests}
 use mathlib.Core.List.{Memᴰ}
 use Rattle.std.proofs.lemmas.Bool.{true≢false}
 use Rattle.rules.specs.Refusals.{number_of}
 use Rattle.rules.specs.declared.refusal.Refusal.{Refusal}
-use Rattle.model.specs.Calls.{Query, Call, write, clear, hold, release, copy, new, drop, take, sync, would, read, readhold, free, Value, done, name, ask}
+use Rattle.model.specs.Calls.{Call, write, clear, hold, release, copy, new, drop, take, sync, Value, done, name, ask}
 use Rattle.model.specs.Maps.{rising}
 use Rattle.model.specs.Refusals.{Applies, Judgement}
-use Rattle.model.specs.Runs.{Reason, unanswered, told, reasons, refusal, does, decided}
+use Rattle.model.specs.Runs.{Reason, told, reasons, refusal, does, decided}
 use Rattle.model.specs.Volume.{Volume}
 use Rattle.model.proofs.Maps.{rise-parts}
-
-ok≢err : {X Y : Type 0} (a : X) (r : Y) → ◌≡◌ {A = Result X Y} (Ok a) (Err r) → ⊥
-ok≢err a r e = let z : ◌≡◌ {A = ℕ} 0 1 = cc in omega arith
 
 -- the numbers of each call's reasons rise
 abbrev numbers : List Reason → List ℕ
 numbers rs = map (λ (r : Reason). number_of r.0) rs
 
-unanswered-rise : (q : Query) (v : Volume) → rising 10 0 (numbers (unanswered q v)) ≡ true
-unfolding rising
-unanswered-rise (would h) v = refl
-unanswered-rise (read d s) v = refl
-unanswered-rise (readhold h s) v = refl
-unanswered-rise free v = refl
-
 numbers-rise : (c : Call) (v : Volume) → rising 10 0 (numbers (reasons c v)) ≡ true
 unfolding rising
-numbers-rise (write d s bs) v = refl
-numbers-rise (clear d s) v = refl
-numbers-rise (hold d) v = refl
-numbers-rise (release h) v = refl
-numbers-rise (copy h) v = refl
-numbers-rise new v = refl
-numbers-rise (drop d) v = refl
-numbers-rise (take d st) v = refl
-numbers-rise sync v = refl
-numbers-rise (ask q) v = unanswered-rise q v
+numbers-rise c v = grind (arith, nat_tests)
 
 -- each call that isn't refused has a value for an answer
 pub answers : (c : Call) (v : Volume) → (a : Value) × ((does c v).answer ≡ Ok a)
@@ -56,7 +38,7 @@ abbrev pub In : Refusal → List Reason → Type 0
 In r rs = Memᴰ (r, true) rs
 
 first-applies : (rs : List Reason) (r : Refusal) → refusal rs ≡ Some r → In r rs
-first-applies [] r e = let z : ◌≡◌ {A = ℕ} 0 1 = cc in absurd (omega arith)
+first-applies [] r e = absurd cc
 first-applies (x ∷ rs) r e = go x.1 refl (first-applies rs r) e
   where
     go : (b : Bool) → x.1 ≡ b → (refusal rs ≡ Some r → In r rs) → cond b (Some x.0) (refusal rs) ≡ Some r → In r (x ∷ rs)
@@ -88,14 +70,13 @@ none_in [] s e m = elim m [ ]
 none_in (x ∷ rs) s e m = go x.1 refl (none_in rs s) e m
   where
     go : (b : Bool) → x.1 ≡ b → (refusal rs ≡ None → In s rs → ⊥) → cond b (Some x.0) (refusal rs) ≡ None → In s (x ∷ rs) → ⊥
-    go true q again e m = let z : ◌≡◌ {A = ℕ} 0 1 = cc in omega arith
+    go true q again e m = cc
     go false q again e (Memᴰ.head f) = true≢false (ap (λ (y : Reason). y.1) f ∙ q)
     go false q again e (Memᴰ.tail k) = again e k
 
 -- what was answered tells which it was
 judged-by : (c : Call) (v : Volume) (f : Option Refusal) → refusal (reasons c v) ≡ f → (r : Refusal) → (decided v f (does c v)).answer ≡ Err r → f ≡ Some r
-judged-by c v None e r h = absurd (ok≢err (answers c v).0 r (sym (answers c v).1 ∙ h))
-judged-by c v (Some s) e r h = let y : s ≡ r = cc in ap Some y
+judged-by c v f e r h = grind (arith, nat_tests)
 
 abbrev Given : (c : Call) (v : Volume) → Option Refusal → Type 0
 Given c v f = refusal (reasons c v) ≡ f

@@ -1,40 +1,38 @@
 -- What holds of a volume says that exactly the blocks are in use that some version shows.
-use Rattle.std.proofs.Common.{◌≡◌, ℕ, zero, suc, ◌+◌, ◌<◌, ◌≤◌, Bool, true, false, cond, ◌||◌, eqb, ltb, leb, ◌⊎◌, List, [], ◌∷◌, map, length, Some, None, Option, sym, refl, ap, ◌∙◌, subst, inl, inr, ⊎_elim, arith}
+use Rattle.std.proofs.Common.{◌≡◌, ℕ, zero, suc, ◌+◌, ◌<◌, ◌≤◌, Bool, true, false, cond, ◌||◌, eqb, ltb, ◌⊎◌, List, [], ◌∷◌, map, length, Some, None, Option, sym, refl, ap, ◌∙◌, subst, inl, inr, ⊎_elim, arith}
 use mathlib.Core.List.{Memᴰ}
-use Rattle.model.specs.Blocks.{is, has, use_at, used_at}
+use Rattle.model.specs.Blocks.{is, has, used_at}
 use Rattle.std.specs.List.{AllByRecursion}
-use Rattle.std.proofs.lemmas.Bool.{cases_lt, ltb-true, lt-ltb, or_cases, or_left, or_right, or_parts, ltb-false, true≢false, eq-eqb, eqb-true}
+use Rattle.std.proofs.lemmas.Option.{none-some}
+use Rattle.std.proofs.lemmas.Bool.{cases_lt, ltb-true, lt-ltb, or_cases, or_left, or_right, eq-eqb, eqb-true}
 use Rattle.std.proofs.lemmas.Bool.Decides.{nat_tests, same_from_decides}
 use Rattle.rules.specs.Limits.{first_block, most_slots}
 use Rattle.model.specs.Exactly.{Shown, by_disk, by_hold, in_holds, recount, Exact}
+use Rattle.model.specs.Gone.{Shows}
 use Rattle.model.specs.Holds.{Past, past, find, find_hold, past_of, base}
 use Rattle.model.specs.Maps.{Map, look_in, shown_by, rising, slots_rise}
 use Rattle.model.specs.Sound.{young, Link, Line, own, own_in, total, DiskOk, Sound, Known}
 use Rattle.model.specs.Sums.{bit, sum}
 use Rattle.model.specs.Volume.{Hold, Disk, Volume, since}
-use Rattle.model.specs.declared.types.Origin.{Origin}
+use Rattle.model.specs.declared.types.HoldHead.{HoldHead}
 use Rattle.model.specs.declared.types.Ptr.{Ptr}
 use Rattle.model.specs.declared.types.Slot.TheVariants.{Empty, At}
-use Rattle.model.proofs.Blocks.{used-there, used-open}
-use Rattle.model.proofs.Disks.{none≢some, all-mem, find-mem}
+use Rattle.model.proofs.Disks.{all-mem, find-mem}
 use Rattle.model.proofs.Lines.{present-rises as line-rises}
 use Rattle.model.proofs.Maps.{rise-parts, look-past, look-here, look-above, look_none, by_order}
 use Rattle.model.proofs.Sums.{split}
 
 -- A MAP shows a block, counted and by slots.
-abbrev pub InMap : ℕ → Map → Type 0
-InMap b m = (s : ℕ) × (p : Ptr) × (look_in s m ≡ At p) × (p.block ≡ b)
-
 -- a slot that shows something shows an entry of the map
 pub look-sum : (w : Ptr → ℕ) (s : ℕ) (p : Ptr) (m : Map) → look_in s m ≡ At p → w p ≤ sum w (shown_by m)
-look-sum w s p [] e = let z : Empty ≡ At p = sym (look_none s) ∙ e in let y : ◌≡◌ {A = ℕ} 0 1 = cc in absurd (omega arith)
+look-sum w s p [] e = let z : Empty ≡ At p = sym (look_none s) ∙ e in absurd cc
 look-sum w s p (e ∷ m) h =
     by_order s e m _
     (λ x. let q : At e.at ≡ At p = sym (look-here s e m x) ∙ h in let r : e.at ≡ p = cc in omega (arith, ap w r))
     (λ x. omega (arith, look-sum w s p m (sym (look-past s e m x) ∙ h)))
-    (λ x. let z : Empty ≡ At p = sym (look-above s e m x) ∙ h in let y : ◌≡◌ {A = ℕ} 0 1 = cc in absurd (omega arith))
+    (λ x. let z : Empty ≡ At p = sym (look-above s e m x) ∙ h in absurd cc)
 
-pub in-map-sum : (b : ℕ) (m : Map) → InMap b m → 1 ≤ sum (is b) (shown_by m)
+pub in-map-sum : (b : ℕ) (m : Map) → Shows m b → 1 ≤ sum (is b) (shown_by m)
 in-map-sum b m (s, p, h, e) = omega (arith, look-sum (is b) s p m h, ap bit (eq-eqb p.block b e))
 
 sum-in-map-from : (n b : ℕ) (m : Map) → rising most_slots n (map (λ e. e.slot) m) ≡ true → 1 ≤ sum (is b) (shown_by m) → (s : ℕ) × (p : Ptr) × (look_in s m ≡ At p) × (p.block ≡ b) × (n ≤ s)
@@ -49,7 +47,7 @@ sum-in-map-from n b (e ∷ m) h l =
     go true x q again l = (e.slot, e.at, look-here e.slot e m refl, eqb-true e.at.block b x, q.0)
     go false x q again l = let r = again (omega arith) in (r.0, r.1, look-past r.0 e m r.4 ∙ r.2, r.3, omega (arith, r.4, q.0))
 
-pub sum-in-map : (b : ℕ) (m : Map) → slots_rise m ≡ true → 1 ≤ sum (is b) (shown_by m) → InMap b m
+pub sum-in-map : (b : ℕ) (m : Map) → slots_rise m ≡ true → 1 ≤ sum (is b) (shown_by m) → Shows m b
 sum-in-map b m h l = let r = sum-in-map-from 0 b m h l in (r.0, r.1, r.2, r.3)
 
 -- WHAT A VERSION SHOWS is its own or shown by the version before.
@@ -74,7 +72,7 @@ module _ (now names : ℕ) (w : Ptr → ℕ) where
 
 -- a hold that is found is one of the holds
 pub found-hold : (x : ℕ) (hs : List Hold) (p : Past) → find_hold x hs ≡ Some p → (h : Hold) × Memᴰ h hs × (past h ≡ p) × (h.name ≡ x)
-found-hold x [] p e = absurd (none≢some p e)
+found-hold x [] p e = absurd (none-some p e)
 found-hold x (h ∷ hs) p e = go (eqb h.name x) refl (found-hold x hs p) e
   where
     go : (t : Bool) → eqb h.name x ≡ t → (find_hold x hs ≡ Some p → (k : Hold) × Memᴰ k hs × (past k ≡ p) × (k.name ≡ x)) → cond t (Some (past h)) (find_hold x hs) ≡ Some p →
@@ -96,11 +94,7 @@ below-mono s t w (d ∷ ds) h = let again = below-mono s t w ds h in grind (arit
 
 below_step : (t : ℕ) (w : Ptr → ℕ) (d : Disk) (ds : List Disk) → Memᴰ d ds → since d.from < t → own w d + below (since d.from) w ds ≤ below t w ds
 below_step t w d [] m h = elim m [ ]
-below_step t w d (x ∷ ds) (Memᴰ.head e) h =
-    subst (λ (y : Disk). since y.from < t → own w y + below (since y.from) w (x ∷ ds) ≤ below t w (x ∷ ds)) (sym e) first' h
-  where
-    first' : since x.from < t → own w x + below (since x.from) w (x ∷ ds) ≤ below t w (x ∷ ds)
-    first' lt = let mono = below-mono (since x.from) t w ds (omega arith) in grind (arith, nat_tests)
+below_step t w d (x ∷ ds) (Memᴰ.head e) h = grind (arith, nat_tests, below-mono)
 below_step t w d (x ∷ ds) (Memᴰ.tail m) h = let again = below_step t w d ds m h in grind (arith, nat_tests)
 
 abbrev Ok : (now names : ℕ) → List Disk → Disk → Type 0
@@ -112,17 +106,17 @@ base-bound : (now names : ℕ) (ds : List Disk) → AllByRecursion (Ok now names
 base-bound now names ds all w zero d m lt = absurd (omega arith)
 base-bound now names ds all w (suc n) d m lt = go d.from (all-mem _ d ds all m).origin (λ e. base-bound now names ds all w n e) lt
   where
-    go : (f : Option Origin) → Known names f (base ds f) → ((e : Disk) → Memᴰ e ds → since e.from < n → sum w (shown_by (base ds e.from).shows) ≤ below (since e.from) w ds) →
+    go : (f : Option HoldHead) → Known names f (base ds f) → ((e : Disk) → Memᴰ e ds → since e.from < n → sum w (shown_by (base ds e.from).shows) ≤ below (since e.from) w ds) →
         since f < suc n → sum w (shown_by (base ds f).shows) ≤ below (since f) w ds
     go None known again l = omega arith
-    go (Some o) known again l = in-disk (find o.hold ds) refl known.2
+    go (Some o) known again l = in-disk (find o.name ds) refl known.2
       where
-        in-disk : (f : Option Past) → find o.hold ds ≡ f → o.moment ≡ (past_of f).moment → sum w (shown_by (past_of f).shows) ≤ below o.moment w ds
+        in-disk : (f : Option Past) → find o.name ds ≡ f → o.moment ≡ (past_of f).moment → sum w (shown_by (past_of f).shows) ≤ below o.moment w ds
         in-disk None q mo = omega arith
         in-disk (Some p) q mo =
-            let r = find-mem o.hold ds p q in
+            let r = find-mem o.name ds p q in
             let e = r.0 in
-            let h = found-hold o.hold e.holds p r.2 in
+            let h = found-hold o.name e.holds p r.2 in
             let b = hold-bound now names w (since e.from) (base ds e.from).shows e.holds e.shows e.gone h.0 (all-mem _ e ds all r.1).line h.1 in
             let t : h.0.moment ≡ p.moment = ap (λ (x : Past). x.moment) h.2 in
             let s : sum w (shown_by h.0.shows) ≡ sum w (shown_by p.shows) = ap (λ (x : Past). sum w (shown_by x.shows)) h.2 in
@@ -144,23 +138,19 @@ module _ (v : Volume) (inv : Sound v) where
   hold-within d h m mh w = omega (arith, disk-within d m w, (hold-bound v.moment v.names w (since d.from) (base v.disks d.from).shows d.holds d.shows d.gone h (line_of d m) mh).1)
 
   counted-used : (b : ℕ) → 1 ≤ total (is b) v.disks → used_at b v.uses ≡ true
-  counted-used b l = go (used_at b v.uses) (inv.counts b)
-    where
-      go : (u : Bool) → total (is b) v.disks ≡ bit u → u ≡ true
-      go true e = refl
-      go false e = absurd (omega arith)
+  counted-used b l = grind (arith, nat_tests)
 
   pub shown-used : (b : ℕ) → Shown v b → used_at b v.uses ≡ true
   shown-used b (by_disk d s p m h e) = counted-used b (omega (arith, present-within d m (is b), in-map-sum b d.shows (s, p, h, e)))
   shown-used b (by_hold d k s p m mk h e) = counted-used b (omega (arith, hold-within d k m mk (is b), in-map-sum b k.shows (s, p, h, e)))
 
   -- a block that is some version's own is shown by it
-  own-shown : (b k : ℕ) (q : Map) (hs : List Hold) (m : Map) (g : List Ptr) → Line v.moment v.names k q hs m g → 1 ≤ own_in (is b) k hs m → InMap b m ⊎ ((h : Hold) × Memᴰ h hs × InMap b h.shows)
+  own-shown : (b k : ℕ) (q : Map) (hs : List Hold) (m : Map) (g : List Ptr) → Line v.moment v.names k q hs m g → 1 ≤ own_in (is b) k hs m → Shows m b ⊎ ((h : Hold) × Memᴰ h hs × Shows h.shows b)
   own-shown b k q [] m g ok l = inl (sum-in-map b m ok.rises (omega (arith, split k (is b) (shown_by m))))
   own-shown b k q (h ∷ hs) m g ok l = go (own-shown b h.moment h.shows hs m g ok.1) (cases_lt 0 (sum (young k (is b)) (shown_by h.shows)))
     where
-      go : (1 ≤ own_in (is b) h.moment hs m → InMap b m ⊎ ((c : Hold) × Memᴰ c hs × InMap b c.shows)) → (0 < sum (young k (is b)) (shown_by h.shows)) ⊎ (sum (young k (is b)) (shown_by h.shows) ≤ 0) →
-          InMap b m ⊎ ((c : Hold) × Memᴰ c (h ∷ hs) × InMap b c.shows)
+      go : (1 ≤ own_in (is b) h.moment hs m → Shows m b ⊎ ((c : Hold) × Memᴰ c hs × Shows c.shows b)) → (0 < sum (young k (is b)) (shown_by h.shows)) ⊎ (sum (young k (is b)) (shown_by h.shows) ≤ 0) →
+          Shows m b ⊎ ((c : Hold) × Memᴰ c (h ∷ hs) × Shows c.shows b)
       go again (inl lt) = inr (h, Memᴰ.head refl, sum-in-map b h.shows ok.0.version.rises (omega (arith, split k (is b) (shown_by h.shows))))
       go again (inr le) = ⊎_elim (λ x. inl x) (λ (c, mc, x). inr (c, Memᴰ.tail mc, x)) (again (omega arith))
 
@@ -181,10 +171,10 @@ module _ (v : Volume) (inv : Sound v) where
       (own-shown b (since d.from) (base v.disks d.from).shows d.holds d.shows d.gone (line_of d r.1) r.2)
 
   -- COUNTED from nothing
-  has_in : (b : ℕ) (m : Map) → slots_rise m ≡ true → has b (shown_by m) ≡ true → InMap b m
+  has_in : (b : ℕ) (m : Map) → slots_rise m ≡ true → has b (shown_by m) ≡ true → Shows m b
   has_in b m rises h = sum-in-map b m rises (ltb-true 0 (sum (is b) (shown_by m)) h)
 
-  in-has : (b : ℕ) (m : Map) → InMap b m → has b (shown_by m) ≡ true
+  in-has : (b : ℕ) (m : Map) → Shows m b → has b (shown_by m) ≡ true
   in-has b m x = lt-ltb 0 (sum (is b) (shown_by m)) (in-map-sum b m x)
 
   present-rises : (d : Disk) → Memᴰ d v.disks → slots_rise d.shows ≡ true
@@ -194,13 +184,13 @@ module _ (v : Volume) (inv : Sound v) where
   hold-rises d h m mh = (hold-bound v.moment v.names (λ _. 0) (since d.from) (base v.disks d.from).shows d.holds d.shows d.gone h (line_of d m) mh).2
 
   holds-shown : (b : ℕ) (d : Disk) → Memᴰ d v.disks → (hs : List Hold) → ((h : Hold) → Memᴰ h hs → Memᴰ h d.holds) → in_holds b hs ≡ true → Shown v b
-  holds-shown b d m [] f e = absurd (true≢false (sym e))
+  holds-shown b d m [] f e = absurd cc
   holds-shown b d m (h ∷ hs) f e =
       ⊎_elim (λ x. let (s, p, l, q) = has_in b h.shows (hold-rises d h m (f h (Memᴰ.head refl))) x in by_hold d h s p m (f h (Memᴰ.head refl)) l q)
       (λ x. holds-shown b d m hs (λ k n. f k (Memᴰ.tail n)) x) (or_cases (has b (shown_by h.shows)) (in_holds b hs) e)
 
   recount-shown : (b : ℕ) (ds : List Disk) → ((d : Disk) → Memᴰ d ds → Memᴰ d v.disks) → recount b ds ≡ true → Shown v b
-  recount-shown b [] f e = absurd (true≢false (sym e))
+  recount-shown b [] f e = absurd cc
   recount-shown b (d ∷ ds) f e =
       let m = f d (Memᴰ.head refl) in
       ⊎_elim
@@ -218,13 +208,10 @@ module _ (v : Volume) (inv : Sound v) where
   in-disks b d (x ∷ ds) (Memᴰ.tail m) e = or_right _ _ (in-disks b d ds m e)
 
   shown-recount : (b : ℕ) → Shown v b → recount b v.disks ≡ true
-  shown-recount b (by_disk d s p m h e) = in-disks b d v.disks m (or_left _ _ (in-has b d.shows (s, p, h, e)))
-  shown-recount b (by_hold d k s p m mk h e) = in-disks b d v.disks m (or_right _ _ (in-holds b k d.holds mk (in-has b k.shows (s, p, h, e))))
+  shown-recount b h = grind (arith, nat_tests, in-disks, in-has, in-holds, or_left, or_right)
 
   inside : (b : ℕ) → used_at b v.uses ≡ true → (first_block ≤ b) × (b < length v.uses)
-  inside b u =
-      let open' : (ltb b first_block || leb (length v.uses) b) ≡ false = sym (inv.reserved b) ∙ used-open (use_at b v.uses) u in
-      (ltb-false b first_block (or_parts (ltb b first_block) (leb (length v.uses) b) open').0, used-there b v.uses u)
+  inside b u = grind (arith, nat_tests)
 
   pub exact : (b : ℕ) → Exact v b
   exact b =

@@ -1,22 +1,22 @@
 -- Holds stay.
+use Rattle.std.proofs.lemmas.Bool.Decides.{nat_tests}
 use Rattle.std.proofs.Common.{◌≡◌, ℕ, ◌<◌, true, cond, eqb, List, [], ◌∷◌, length, Some, Option, sym, refl, ap, ◌∙◌, subst, arith}
 use mathlib.Core.List.{Memᴰ}
 use Rattle.model.specs.Blocks.{used_at, is_used}
 use Rattle.std.specs.List.{AllByRecursion}
 use Rattle.std.proofs.lemmas.List.{nil_from_length}
 use Rattle.std.proofs.lemmas.Bool.{eqb-true, ne_eqb, not-false, true≢false}
-use Rattle.model.specs.Calls.{Call, write, clear, hold, release, copy, new, drop, take, sync, ask}
+use Rattle.model.specs.Calls.{Call, release}
 use Rattle.model.specs.Exactly.{by_hold}
-use Rattle.model.specs.Holds.{Past, past, find, base}
+use Rattle.model.specs.Holds.{Past, past, find}
 use Rattle.model.specs.Maps.{look_in, Map}
 use Rattle.model.specs.Runs.{reasons, does, step, run}
 use Rattle.model.specs.Sound.{Sound, Line}
 use Rattle.model.specs.Stays.{HoldsStay}
 use Rattle.model.specs.Steps.{showing, slot_for}
-use Rattle.model.specs.Steps.{Change, Put, change_at, changes_at, holds_at, held, joined, start}
+use Rattle.model.specs.Steps.{Change, Put, change_at, changes_at, holds_at, start}
 use Rattle.model.specs.Store.{Bytes, laid, Store, play, plays, stored}
-use Rattle.model.specs.Tests.{front}
-use Rattle.model.specs.Volume.{Hold, Disk, Volume, disk_at, place_of, hold_place, holder_of, since}
+use Rattle.model.specs.Volume.{Hold, Disk, Volume, disk_at}
 use Rattle.model.specs.declared.types.Mark.{Mark}
 use Rattle.model.specs.declared.types.Ptr.{Ptr}
 use Rattle.model.specs.declared.types.Slot.TheVariants.{At}
@@ -37,37 +37,17 @@ changes-names i [] v = refl
 changes-names i (c ∷ cs) v = changes-names i cs (change_at i c v)
 
 hold-finds : (i : ℕ) (v : Volume) (m : Option Mark) (x : ℕ) → (x ≡ v.names → ⊥) → find x (holds_at i m v).disks ≡ find x v.disks
-hold-finds i v m x ne =
-    let d = disk_at i v.disks in
-    find-set x v.disks i (held (record { name = v.names; moment = v.moment }) m d) (held-finds x v.moment v.names d.holds d.shows d.gone ne)
+hold-finds i v m x ne = grind (arith, nat_tests, find-set, held-finds)
 
 does-finds : (c : Call) (v : Volume) (x : ℕ) → NoneApplies (reasons c v) → x < v.names → (c ≡ release x → ⊥) → find x (does c v).leaves.disks ≡ find x v.disks
-does-finds (write d s bs) v x no' lt ne = find-set x v.disks (place_of d v.disks) _ refl
-does-finds (clear d s) v x no' lt ne = find-set x v.disks (place_of d v.disks) _ refl
-does-finds (hold d) v x no' lt ne = hold-finds (place_of d v.disks) v _ x (λ e. omega arith)
-does-finds (release h) v x no' lt ne =
-    let th = holder-there h v.disks no'.0 in
-    let d = disk_at (holder_of h v.disks) v.disks in
-    find-set x v.disks (holder_of h v.disks) _ (release-finds x (hold_place h d.holds) (joined (hold_place h d.holds) d) d.holds (hold-there h v.disks th) (λ e. ne (ap release (sym (e ∙ hold-name h v.disks th)))))
-does-finds (copy h) v x no' lt ne = find-push x v.disks _ refl
-does-finds new v x no' lt ne = find-push x v.disks _ refl
-does-finds (drop d) v x no' lt ne = find-removed x v.disks (place_of d v.disks) (disk-there d v.disks no'.0) (nil_from_length _ (eqb-true _ 0 (not-false _ no'.1.0)))
-does-finds (take d st) v x no' lt ne =
-    let i = place_of d v.disks in
-    let cs = front 0 st.changes in
-    hold-finds i (changes_at i cs v) (Some st.newer) x (λ e. omega (arith, changes-names i cs v)) ∙ changes-find i cs v x (disk-there d v.disks no'.0)
-does-finds sync v x no' lt ne = refl
-does-finds (ask q) v x no' lt ne = refl
+does-finds c v x no' lt ne = grind (arith, nat_tests, changes-find, changes-names, disk-there, eqb-true, find-push, find-removed, find-set, hold-finds, hold-name, hold-there, holder-there, nil_from_length, not-false, release-finds)
 
 pub step-finds : (c : Call) (v : Volume) (x : ℕ) → x < v.names → (c ≡ release x → ⊥) → find x (step c v).leaves.disks ≡ find x v.disks
 step-finds c v x lt ne = by-step (λ y. find x y.leaves.disks ≡ find x v.disks) c v (λ r _. refl) (λ no'. does-finds c v x no' lt ne)
 
 -- a name that is found was given
 pub found_in : (v : Volume) → Sound v → (x : ℕ) (p : Past) → find x v.disks ≡ Some p → (d : Disk) × (h : Hold) × Memᴰ d v.disks × Memᴰ h d.holds × (past h ≡ p) × (h.name ≡ x)
-found_in v inv x p e =
-    let r = find-mem x v.disks p e in
-    let h = found-hold x r.0.holds p r.2 in
-    (r.0, h.0, r.1, h.1, h.2, h.3)
+found_in v inv x p e = grind (arith, nat_tests, find-mem, found-hold)
 
 holds-below : (now names k : ℕ) (q : Map) (hs : List Hold) (m : Map) (g : List Ptr) (h : Hold) → Line now names k q hs m g → Memᴰ h hs → h.name < names
 holds-below now names k q [] m g h ok x = elim x [ ]
@@ -75,9 +55,7 @@ holds-below now names k q (c ∷ hs) m g h ok (Memᴰ.head e) = omega (arith, ok
 holds-below now names k q (c ∷ hs) m g h ok (Memᴰ.tail x) = holds-below now names c.moment c.shows hs m g h ok.1 x
 
 pub found_below : (v : Volume) → Sound v → (x : ℕ) (p : Past) → find x v.disks ≡ Some p → x < v.names
-found_below v inv x p e =
-    let (d, h, m, mh, q, n) = found_in v inv x p e in
-    omega (arith, n, holds-below v.moment v.names (since d.from) (base v.disks d.from).shows d.holds d.shows d.gone h (line_of v inv d m) mh)
+found_below v inv x p e = grind (arith, nat_tests, found_in, holds-below, line_of)
 
 -- THE BYTES of a block that isn't written
 pub laid-other : (ps : List Put) (f : Bytes) (b : ℕ) → ((p : Put) → Memᴰ p ps → p.block ≡ b → ⊥) → laid ps f b ≡ f b

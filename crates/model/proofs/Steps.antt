@@ -1,8 +1,9 @@
 -- Every call keeps what holds of a volume.
-use Rattle.std.proofs.Common.{◌≡◌, ℕ, suc, ◌+◌, ◌<◌, ◌≤◌, Bool, true, false, cond, ◌&&◌, ltb, leb, List, [], ◌∷◌, length, Some, None, Option, refl, ◌∙◌, arith}
+use Rattle.std.proofs.lemmas.Bool.Decides.{nat_tests}
+use Rattle.std.proofs.Common.{◌≡◌, ℕ, suc, ◌+◌, ◌<◌, ◌≤◌, false, List, [], ◌∷◌, map, length, Some, None, Option, refl, ◌∙◌, arith}
 use Rattle.std.specs.List.{AllByRecursion}
 use Rattle.std.proofs.lemmas.List.{length-set, nil_from_length}
-use Rattle.std.proofs.lemmas.Bool.{or_parts, and_parts, leb-false, ltb-false, ltb-true, eqb-true, not-false}
+use Rattle.std.proofs.lemmas.Bool.{or_parts, leb-false, ltb-false, eqb-true, not-false}
 use Rattle.rules.specs.Limits.{most_slots}
 use Rattle.rules.specs.declared.refusal.Refusal.{Refusal}
 use Rattle.model.specs.Blocks.{frees, is_full, usable}
@@ -29,19 +30,11 @@ NoneApplies (r ∷ rs) = (r.1 ≡ false) × NoneApplies rs
 
 pub none-applies : (rs : List Reason) → refusal rs ≡ None → NoneApplies rs
 none-applies [] e = tt
-none-applies (r ∷ rs) e = go r.1 refl (none-applies rs) e
-  where
-    go : (b : Bool) → r.1 ≡ b → (refusal rs ≡ None → NoneApplies rs) → cond b (Some r.0) (refusal rs) ≡ None → (r.1 ≡ false) × NoneApplies rs
-    go true q again h = let z : ◌≡◌ {A = ℕ} 0 1 = cc in absurd (omega arith)
-    go false q again h = (q, again h)
+none-applies (r ∷ rs) e = let again = none-applies rs in grind (arith, nat_tests)
 
 -- to show something of a call, show it where the call is refused and where it is done
 pub by-step : (P : Done → Type 0) (c : Call) (v : Volume) → ((r : Refusal) → refusal (reasons c v) ≡ Some r → P (decided v (Some r) (does c v))) → (NoneApplies (reasons c v) → P (does c v)) → P (step c v)
-by-step P c v refused done = go (refusal (reasons c v)) refl
-  where
-    go : (f : Option Refusal) → refusal (reasons c v) ≡ f → P (decided v f (does c v))
-    go None e = done (none-applies (reasons c v) e)
-    go (Some r) e = refused r e
+by-step P c v refused done = grind (arith, nat_tests)
 
 -- a slot below the end
 pub slot_small : (s : ℕ) → no_slot s ≡ false → s < most_slots
@@ -49,20 +42,20 @@ slot_small s h = leb-false most_slots s h
 
 -- THE BLOCK that a change takes
 pub born : (bs : Option (List ℕ)) (v : Volume) → Born v.moment (slot_for bs v)
-born None v = tt
-born (Some bs) v = (refl, tt)
+born bs v = grind (arith, nat_tests)
 
 pub lowest-usable : (bs : Option (List ℕ)) (v : Volume) → (0 < written bs → is_full v.uses ≡ false) → Usable (slot_for bs v) v.uses
-lowest-usable None v h = tt
-lowest-usable (Some bs) v h = (lowest-free v.uses (h (omega arith)), tt)
+lowest-usable bs v h = grind (arith, nat_tests, lowest-free)
 
 length-written : (bs : Option (List ℕ)) (v : Volume) → length (shown_in (slot_for bs v)) ≡ written bs
-length-written None v = refl
-length-written (Some bs) v = refl
+length-written bs v = grind (arith, nat_tests)
 
 -- CHANGES, one after the other: each slot is one, and there are blocks for all that are written
 abbrev pub Small : List Change → Type 0
 Small cs = AllByRecursion (λ c. c.slot < most_slots) cs
+
+abbrev pub slots_of : List Change → List ℕ
+slots_of cs = map (λ c. c.slot) cs
 
 module _ (i : ℕ) (c : Change) (v : Volume) (inv : Sound v) (lt : i < length v.disks) (enough : written c.bytes ≤ usable v.uses) where
   pub change-usable : Usable (slot_for c.bytes v) v.uses
@@ -78,9 +71,7 @@ module _ (i : ℕ) (c : Change) (v : Volume) (inv : Sound v) (lt : i < length v.
 
   -- as many fewer may be used as it writes
   pub change-leaves : usable (change_at i c v).uses + written c.bytes ≡ usable v.uses
-  change-leaves =
-      let d = disk_at i v.disks in
-      omega (arith, usable-table (slot_for c.bytes v) (frees (moment_last d) (leaving c.slot d)) v.uses change-usable change-used, length-written c.bytes v)
+  change-leaves = grind (arith, nat_tests, change-usable, change-used, length-written, usable-table)
 
   pub change-there : i < length (change_at i c v).disks
   change-there = rw (length-set v.disks i (showing c.slot (slot_for c.bytes v) (disk_at i v.disks))) lt
@@ -98,11 +89,7 @@ changes-there i (c ∷ cs) v = changes-there i cs (change_at i c v) ∙ length-s
 pub front-small : (n : ℕ) (cs : List Change) → Small (front n cs)
 unfolding front
 front-small n [] = tt
-front-small n (c ∷ cs) = go (leb n c.slot && ltb c.slot most_slots) refl (front-small (suc c.slot) cs)
-  where
-    go : (b : Bool) → (leb n c.slot && ltb c.slot most_slots) ≡ b → Small (front (suc c.slot) cs) → Small (cond b (c ∷ front (suc c.slot) cs) [])
-    go true e again = (ltb-true c.slot most_slots (and_parts (leb n c.slot) (ltb c.slot most_slots) e).1, again)
-    go false e again = tt
+front-small n (c ∷ cs) = let again = front-small (suc c.slot) cs in grind (arith, nat_tests)
 
 -- EACH CALL that nothing refuses
 pub does-sound : (c : Call) (v : Volume) → Sound v → NoneApplies (reasons c v) → Sound (does c v).leaves

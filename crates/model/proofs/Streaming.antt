@@ -1,8 +1,9 @@
 -- A stream has what changed between two holds of one disk, and nothing else.
-use Rattle.std.proofs.Common.{◌≡◌, ℕ, zero, suc, ◌+◌, ◌<◌, ◌≤◌, Bool, true, false, cond, List, [], ◌∷◌, map, length, Option, sym, refl, ap, ◌∙◌, subst, ⊎_elim, arith}
+use Rattle.std.proofs.Common.{◌≡◌, ℕ, zero, suc, ◌+◌, ◌<◌, ◌≤◌, Bool, true, false, cond, List, [], ◌∷◌, length, Option, sym, refl, ap, ◌∙◌, subst, ⊎_elim, arith}
+use Rattle.std.proofs.lemmas.Bool.Decides.{nat_tests}
 use mathlib.Core.List.{Memᴰ}
 use Rattle.std.specs.List.{AllByRecursion}
-use Rattle.std.proofs.lemmas.Bool.{true≢false, ltb-true, ltb-false, cases_eq}
+use Rattle.std.proofs.lemmas.Bool.{cases_eq, ltb-false}
 use Rattle.rules.specs.Limits.{most_slots}
 use Rattle.model.specs.Holds.{Past, past, past_of, nothing, base}
 use Rattle.model.specs.Maps.{Map, look_in, shown_in, rising}
@@ -15,7 +16,8 @@ use Rattle.model.specs.Volume.{Hold, Disk, Volume, hold_at, since}
 use Rattle.model.specs.declared.types.Ptr.{Ptr}
 use Rattle.model.specs.declared.types.Slot.{Slot}
 use Rattle.model.specs.declared.types.Slot.TheVariants.{Empty, At}
-use Rattle.model.proofs.Lines.{join-agree, hold-in}
+use Rattle.model.proofs.Steps.{slots_of}
+use Rattle.model.proofs.Lines.{hold-in}
 use Rattle.model.proofs.Maps.{rise-none, rise-from, rise-lower, look-all}
 use Rattle.model.proofs.Shows.{line_of}
 use Rattle.model.proofs.Stays.{stored-sound}
@@ -24,8 +26,7 @@ use Rattle.model.proofs.Stays.{stored-sound}
 after-agree : (now names k : ℕ) (q : Map) (b : ℕ) (hs : List Hold) (m : Map) (g : List Ptr) → b < length hs → Line now names k q hs m g → Agree k q (hold_at b hs).shows
 after-agree now names k q b [] m g lt ok = absurd (omega arith)
 after-agree now names k q zero (h ∷ hs) m g lt ok = ok.0.version.agree
-after-agree now names k q (suc b) (h ∷ hs) m g lt ok =
-    join-agree k h.moment q h.shows (hold_at b hs).shows (omega (arith, ok.0.version.later)) ok.0.version.agree (after-agree now names h.moment h.shows b hs m g (omega arith) ok.1)
+after-agree now names k q (suc b) (h ∷ hs) m g lt ok = let again = after-agree now names h.moment h.shows b hs m g (omega arith) ok.1 in grind (arith, nat_tests)
 
 abbrev pub Apart : Past → Past → Type 0
 Apart o n = Agree o.moment o.shows n.shows × Early o.moment o.shows × (o.moment < n.moment)
@@ -33,8 +34,7 @@ Apart o n = Agree o.moment o.shows n.shows × Early o.moment o.shows × (o.momen
 both-agree : (now names k : ℕ) (q : Map) (a b : ℕ) (hs : List Hold) (m : Map) (g : List Ptr) → a < b → b < length hs → Line now names k q hs m g → Apart (past (hold_at a hs)) (past (hold_at b hs))
 both-agree now names k q a b [] m g less lt ok = absurd (omega arith)
 both-agree now names k q a zero (h ∷ hs) m g less lt ok = absurd (omega arith)
-both-agree now names k q zero (suc b) (h ∷ hs) m g less lt ok =
-    (after-agree now names h.moment h.shows b hs m g (omega arith) ok.1, ok.0.version.early, (hold-in now names h.moment h.shows b hs m g (omega arith) ok.1).2)
+both-agree now names k q zero (suc b) (h ∷ hs) m g less lt ok = grind (arith, nat_tests, after-agree, hold-in)
 both-agree now names k q (suc a) (suc b) (h ∷ hs) m g less lt ok = both-agree now names h.moment h.shows a b hs m g (omega arith) (omega arith) ok.1
 
 -- from nothing: everything was born after it
@@ -52,33 +52,21 @@ ordered-apart v inv d m newer older (from_hold a b o less lt e f) =
     subst (λ o. Apart o newer) (sym e) (subst (Apart (past (hold_at a d.holds))) (sym f) (both-agree v.moment v.names (since d.from) (base v.disks d.from).shows a b d.holds d.shows d.gone less lt (line_of v inv d m)))
 
 -- THE CHANGES
-abbrev pub slots_of : List Change → List ℕ
-slots_of cs = map (λ c. c.slot) cs
-
 -- a slot that isn't in the stream shows the same
 pub same-slot : (k : ℕ) (o n : Slot) → ((p : Ptr) → n ≡ At p → p.birth ≤ k → o ≡ At p) → differs k o n ≡ false → o ≡ n
 same-slot k o (At p) a e = a p refl (ltb-false k p.birth e)
 same-slot k Empty Empty a e = refl
-same-slot k (At q) Empty a e = absurd (true≢false e)
+same-slot k (At q) Empty a e = absurd cc
 
 -- one that is in it doesn't
 apart-slot : (k : ℕ) (o n : Slot) → AllByRecursion (λ p. (0 < p.birth) × (p.birth < k)) (shown_in o) → differs k o n ≡ true → o ≡ n → ⊥
-apart-slot k o (At p) early e q =
-    let a : AllByRecursion (λ (r : Ptr). (0 < r.birth) × (r.birth < k)) (shown_in (At p)) = subst (λ x. AllByRecursion (λ (r : Ptr). (0 < r.birth) × (r.birth < k)) (shown_in x)) q early in
-    omega (arith, a.0.1, ltb-true k p.birth e)
-apart-slot k Empty Empty early e q = true≢false (sym e)
-apart-slot k (At r) Empty early e q = let z : ◌≡◌ {A = ℕ} 0 1 = cc in omega arith
+apart-slot k o n early e q = grind (arith, nat_tests)
 
 module _ (f : Bytes) (k : ℕ) (old new : Map) where
   pub changes-rise : (s n : ℕ) → s + n ≡ most_slots → rising most_slots s (slots_of (changes_from s n f k old new)) ≡ true
   unfolding changes_from
   changes-rise s zero e = rise-none most_slots s
-  changes-rise s (suc n) e = go (differs k (look_in s old) (look_in s new)) (changes-rise (suc s) n (omega arith))
-    where
-      go : (b : Bool) → rising most_slots (suc s) (slots_of (changes_from (suc s) n f k old new)) ≡ true →
-          rising most_slots s (slots_of (cond b (change s (content f (look_in s new)) ∷ changes_from (suc s) n f k old new) (changes_from (suc s) n f k old new))) ≡ true
-      go true again = rise-from most_slots s s (slots_of (changes_from (suc s) n f k old new)) (omega arith) (omega arith) again
-      go false again = rise-lower most_slots s (suc s) (slots_of (changes_from (suc s) n f k old new)) (omega arith) again
+  changes-rise s (suc n) e = let again = changes-rise (suc s) n (omega arith) in grind (arith, nat_tests, rise-from, rise-lower)
 
   change-in : (s n : ℕ) (c : Change) → Memᴰ c (changes_from s n f k old new) → (c.bytes ≡ content f (look_in c.slot new)) × (differs k (look_in c.slot old) (look_in c.slot new) ≡ true)
   unfolding changes_from

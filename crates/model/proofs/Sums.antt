@@ -1,5 +1,5 @@
 -- Sums of weights over lists.
-use Rattle.std.proofs.Common.{◌≡◌, ℕ, zero, suc, ◌+◌, ◌<◌, ◌≤◌, Bool, true, false, List, [], ◌∷◌, ◌++◌, length, get_or, set, refl, arith}
+use Rattle.std.proofs.Common.{◌≡◌, ℕ, zero, suc, ◌+◌, ◌<◌, ◌≤◌, Bool, List, [], ◌∷◌, ◌++◌, length, get_or, set, refl, arith}
 use Rattle.std.specs.List.{remove, AllByRecursion}
 use Rattle.std.proofs.lemmas.Bool.Decides.{nat_tests}
 use Rattle.model.specs.Blocks.{frees, keeps}
@@ -8,8 +8,7 @@ use Rattle.model.specs.Sums.{bit, sum}
 use Rattle.model.specs.declared.types.Ptr.{Ptr}
 
 pub bit-most : (b : Bool) → bit b ≤ 1
-bit-most true = omega arith
-bit-most false = omega arith
+bit-most b = grind (arith, nat_tests)
 
 pub sum-append : {X : Type 0} (w : X → ℕ) (a b : List X) → sum w (a ++ b) ≡ sum w a + sum w b
 sum-append w [] b = omega arith
@@ -24,8 +23,7 @@ sum-add u v t h [] = omega arith
 sum-add u v t h (x ∷ l) = omega (arith, h x, sum-add u v t h l)
 
 pub sum_same : {X : Type 0} (u t : X → ℕ) → ((x : X) → u x ≡ t x) → (l : List X) → sum u l ≡ sum t l
-sum_same u t h [] = refl
-sum_same u t h (x ∷ l) = omega (arith, h x, sum_same u t h l)
+sum_same u t h l = grind (arith, nat_tests)
 
 -- one element in the place of another, and one left out
 pub sum-set : {X : Type 0} (w : X → ℕ) (xs : List X) (i : ℕ) (y d : X) → i < length xs → sum w (set xs i y) + w (get_or xs i d) ≡ sum w xs + w y

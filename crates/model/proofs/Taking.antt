@@ -1,5 +1,6 @@
 -- A stream, taken by a disk that has what the older hold has, leaves what the newer has.
-use Rattle.std.proofs.Common.{◌≡◌, ℕ, zero, suc, ◌+◌, ◌<◌, ◌≤◌, Bool, true, false, cond, not, ◌&&◌, eqb, ltb, leb, List, [], ◌∷◌, ◌++◌, length, Some, None, Ok, Err, Option, Result, sym, refl, ap, ◌∙◌, subst, ⊎_elim, arith}
+use Rattle.std.proofs.lemmas.Bool.Decides.{nat_tests}
+use Rattle.std.proofs.Common.{◌≡◌, ℕ, zero, suc, ◌+◌, ◌<◌, ◌≤◌, Bool, true, false, cond, not, eqb, ltb, leb, List, [], ◌∷◌, ◌++◌, length, Some, None, Ok, Err, Option, Result, sym, refl, ap, ◌∙◌, subst, ⊎_elim, arith}
 use mathlib.Core.List.Memᴰ
 use Rattle.model.specs.Blocks.{usable, lowest_in, use_at, used_at, is_full}
 use Rattle.std.proofs.lemmas.List.{get_or-set_same}
@@ -18,9 +19,8 @@ use Rattle.model.specs.Steps.{change}
 use Rattle.model.specs.Steps.{Change, Put, slot_for, showing, change_at, changes_at, put_for, puts_at, held}
 use Rattle.model.specs.Store.{Bytes, laid, Store, play, stored}
 use Rattle.model.specs.Streams.{content, differs, changes_from, mark_of, older_mark, stream_of, found_by, finds, Takes, StreamsTaken}
-use Rattle.model.specs.Tests.{front, written, writes, follows, is_none, is_new, unfit, changes_rise}
+use Rattle.model.specs.Tests.{front, written, writes, follows, unfit, changes_rise}
 use Rattle.model.specs.Volume.{Disk, Volume, blank, disk_at, place_of}
-use Rattle.model.specs.declared.types.Mark.{Mark}
 use Rattle.model.specs.declared.types.Ptr.{Ptr}
 use Rattle.model.specs.declared.types.Slot.{Slot}
 use Rattle.model.specs.declared.types.Slot.TheVariants.{Empty, At}
@@ -34,8 +34,8 @@ use Rattle.model.proofs.Refused.{judgement}
 use Rattle.model.proofs.Seen.{map_in, seen, answer_of, read-seen, seen-there, seen_same, place_set}
 use Rattle.model.proofs.Shows.{shown-used}
 use Rattle.model.proofs.Stays.{stored-sound}
-use Rattle.model.proofs.Steps.{none-applies, Small, front-small, change-sound, change-there, change-leaves, changes-there}
-use Rattle.model.proofs.Streaming.{Apart, changes-rise, ordered-apart, same-slot, slots_of}
+use Rattle.model.proofs.Steps.{none-applies, Small, front-small, change-sound, change-there, change-leaves, changes-there, slots_of}
+use Rattle.model.proofs.Streaming.{Apart, changes-rise, ordered-apart, same-slot}
 use Rattle.model.proofs.Told.{was-done, done-step}
 use Rattle.model.proofs.Volumes.{disk-ok}
 
@@ -138,20 +138,8 @@ finds-in : (y s : ℕ) (u : Store) (m : Map) → seen y u.volume.disks ≡ Some 
 finds-in y s u m e lt = ap (found_by u.bytes) (read-seen y s u.volume ∙ ap (λ n. answer_of n s) e) ∙ rw (lt-leb most_slots s lt)
 
 -- THE SAME STREAM isn't taken twice
-never-new : (d : Disk) (m : Mark) → d.mark ≡ Some m → is_new d ≡ false
-never-new d m e = rw e (go (is_none d.from))
-  where
-    go : (b : Bool) → (b && false) ≡ false
-    go true = refl
-    go false = refl
-
 no-follow : (t : Store) (older : Option Past) (newer : Past) (d : Disk) → (past_of older).moment < newer.moment → d.mark ≡ Some (mark_of t newer) → follows (older_mark t older) d ≡ false
-no-follow t None newer d lt e = never-new d (mark_of t newer) e
-no-follow t (Some o) newer d lt e = rw (e, ne_eqb newer.moment o.moment (λ q. omega arith)) (go (eqb t.volume.number t.volume.number))
-  where
-    go : (b : Bool) → (b && false) ≡ false
-    go true = refl
-    go false = refl
+no-follow t older newer d lt e = grind (arith, nat_tests)
 
 unfit-applies : (y : ℕ) (st : Stream) (v : Volume) → unfit st (disk_at (place_of y v.disks) v.disks) ≡ true → Applies Unfit (take y st) v
 unfit-applies y st v e = Memᴰ.tail (Memᴰ.tail (Memᴰ.tail (Memᴰ.head (λ i. (Unfit, sym e i)))))

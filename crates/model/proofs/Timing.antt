@@ -1,18 +1,18 @@
 -- Moments count the changes, and marks are set by taking and cleared by writing.
-use Rattle.std.proofs.Common.{◌≡◌, ℕ, ◌+◌, ◌<◌, List, [], ◌∷◌, length, set, Some, None, Ok, Option, sym, refl, ap, ◌∙◌, arith}
+use Rattle.std.proofs.Common.{◌≡◌, ℕ, ◌+◌, ◌<◌, List, [], ◌∷◌, length, set, Some, Ok, Option, sym, refl, ap, ◌∙◌, arith}
+use Rattle.std.proofs.lemmas.Bool.Decides.{nat_tests}
 use Rattle.std.proofs.lemmas.Bool.{or_parts, lt-leb}
 use Rattle.rules.specs.Limits.{most_slots}
 use Rattle.model.specs.Blocks.{lowest_in}
-use Rattle.model.specs.Calls.{Stream, read, Call, write, clear, hold, release, copy, new, drop, take, sync, ask, Value, name, slot, Done}
+use Rattle.model.specs.Calls.{Stream, read, Call, write, clear, hold, copy, new, take, ask, Value, name, slot, Done}
 use Rattle.model.specs.Holds.{find}
 use Rattle.model.specs.Maps.{Map}
 use Rattle.model.specs.Moments.{moments, Timing, mark_in, Spares, Marked, Marking}
 use Rattle.model.specs.Runs.{reasons, does, step, reached}
 use Rattle.model.specs.Sound.{Sound}
-use Rattle.model.specs.Steps.{Change, change, slot_for, showing, change_at, changes_at, holds_at, hold_of, held}
-use Rattle.model.specs.Tests.{no_slot, front}
-use Rattle.model.specs.Volume.{Disk, Volume, disk_at, place_of, holder_of, of_disk}
-use Rattle.model.specs.declared.types.HoldHead.{HoldHead}
+use Rattle.model.specs.Steps.{Change, slot_for, showing, change_at, changes_at, holds_at}
+use Rattle.model.specs.Tests.{no_slot}
+use Rattle.model.specs.Volume.{Disk, Volume, disk_at, place_of, of_disk}
 use Rattle.model.specs.declared.types.Mark.{Mark}
 use Rattle.model.specs.declared.types.Slot.TheVariants.{At}
 use Rattle.model.proofs.Bounds.{changes-like}
@@ -27,16 +27,7 @@ use Rattle.model.proofs.Told.{was-done, done-step}
 use Rattle.model.proofs.Volumes.{unnamed, disk-ok}
 
 does-moments : (c : Call) (v : Volume) → NoneApplies (reasons c v) → (does c v).leaves.moment ≡ v.moment + moments c
-does-moments (write d s bs) v no' = refl
-does-moments (clear d s) v no' = refl
-does-moments (hold d) v no' = refl
-does-moments (release h) v no' = refl
-does-moments (copy h) v no' = refl
-does-moments new v no' = refl
-does-moments (drop d) v no' = refl
-does-moments (take d st) v no' = omega (arith, (changes-like (place_of d v.disks) (front 0 st.changes) v (disk-there d v.disks no'.0)).moment)
-does-moments sync v no' = omega arith
-does-moments (ask q) v no' = omega arith
+does-moments c v no' = grind (arith, nat_tests, changes-like, disk-there)
 
 module _ (v : Volume) (inv : Sound v) where
   born : (d s : ℕ) (bs : List ℕ) (a : Value) → (step (write d s bs) v).answer ≡ Ok a →
@@ -55,16 +46,7 @@ module _ (v : Volume) (inv : Sound v) where
 
   made : (d n : ℕ) (m : Map) → (step (hold d) v).answer ≡ Ok (name n) → of_disk (λ e. e.shows) d v.disks ≡ Some m →
       find n (step (hold d) v).leaves.disks ≡ Some (record { moment = v.moment; shows = m })
-  made d n m h q =
-      let none = was-done (hold d) v (name n) h in
-      let e = named-next (hold d) v n refl h none in
-      let r = seen-map d v.disks m q in
-      let i = place_of d v.disks in
-      let x = disk_at i v.disks in
-      let hd : HoldHead = record { name = v.names; moment = v.moment } in
-      ap (λ (y : Done). find n y.leaves.disks) (done-step (hold d) v none)
-      ∙ find-new n v.disks i (held hd x.mark x) (hold_of hd x) r.0 (unnamed v inv n (omega arith)) refl (sym e)
-      ∙ ap (λ k. Some (record { moment = v.moment; shows = k })) r.1
+  made d n m h q = grind (arith, nat_tests, done-step, find-new, named-next, seen-map, unnamed, was-done)
 
 pub timing : Timing
 timing n number calls =
@@ -82,8 +64,7 @@ mark d = d.mark
 
 -- the disk that a call writes
 marked-at : (x : ℕ) (v : Volume) (d : Disk) (i : ℕ) → i ≡ place_of x v.disks → i < length v.disks → d.name ≡ (disk_at i v.disks).name → of_disk mark x (set v.disks i d) ≡ Some d.mark
-marked-at x v d i e lt n =
-    ap (λ k. of_disk mark x (set v.disks k d)) e ∙ seen-set mark x v.disks d (rw (← e) lt) (n ∙ ap (λ k. (disk_at k v.disks).name) e ∙ disk-name x v.disks (rw (← e) lt))
+marked-at x v d i e lt n = grind (arith, nat_tests, disk-name, seen-set)
 
 changes-spare : (x y : ℕ) (cs : List Change) (v : Volume) (i : ℕ) → i ≡ place_of x v.disks → i < length v.disks → (x ≡ y → ⊥) → of_disk mark y (changes_at i cs v).disks ≡ of_disk mark y v.disks
 changes-spare x y [] v i e lt ne = refl
@@ -97,38 +78,15 @@ hold-spare : (i : ℕ) (v : Volume) (y : ℕ) → of_disk mark y (holds_at i (di
 hold-spare i v y = seen_same mark y v.disks i _ refl refl
 
 does-spares : (c : Call) (v : Volume) (y : ℕ) (m : Option Mark) → NoneApplies (reasons c v) → Spares c y → mark_in y v ≡ Some m → mark_in y (does c v).leaves ≡ Some m
-does-spares (write d s bs) v y m no' ne e =
-    changes-spare d y (change s (Some bs) ∷ []) v (place_of d v.disks) refl (disk-there d v.disks (or_parts _ (no_slot s) no'.0).0) ne ∙ e
-does-spares (clear d s) v y m no' ne e =
-    changes-spare d y (change s None ∷ []) v (place_of d v.disks) refl (disk-there d v.disks (or_parts _ (no_slot s) no'.0).0) ne ∙ e
-does-spares (hold d) v y m no' ne e = hold-spare (place_of d v.disks) v y ∙ e
-does-spares (release h) v y m no' ne e = seen_same mark y v.disks (holder_of h v.disks) _ refl refl ∙ e
-does-spares (copy h) v y m no' ne e = seen-push mark y v.disks _ m e
-does-spares new v y m no' ne e = seen-push mark y v.disks _ m e
-does-spares (drop d) v y m no' ne e = seen-removed mark y d v.disks ne (disk-there d v.disks no'.0) ∙ e
-does-spares (take d st) v y m no' ne e =
-    let i = place_of d v.disks in
-    let cs = front 0 st.changes in
-    let w = changes_at i cs v in
-    let lt = disk-there d v.disks no'.0 in
-    let place : place_of d w.disks ≡ i = changes-place i d cs v in
-    let ltw : i < length w.disks = rw (changes-there i cs v) lt in
-    let n : (disk_at i w.disks).name ≡ d = ap (λ k. (disk_at k w.disks).name) (sym place) ∙ disk-name d w.disks (rw place ltw) in
-    seen_other mark y w.disks i _ refl (λ q. ne (sym n ∙ q)) ∙ changes-spare d y cs v i refl lt ne ∙ e
-does-spares sync v y m no' ne e = e
-does-spares (ask q) v y m no' ne e = e
+does-spares c v y m no' ne e = grind (arith, nat_tests, changes-place, changes-spare, changes-there, disk-name, disk-there, hold-spare, or_parts, seen-push, seen-removed, seen_other, seen_same)
 
 module _ (v : Volume) (inv : Sound v) where
   -- what a call that was answered left of a mark
   by-done : (c : Call) (a : Value) (y : ℕ) (m : Option (Option Mark)) → (step c v).answer ≡ Ok a → (NoneApplies (reasons c v) → mark_in y (does c v).leaves ≡ m) → mark_in y (step c v).leaves ≡ m
-  by-done c a y m h f = let none = was-done c v a h in ap (λ (z : Done). mark_in y z.leaves) (done-step c v none) ∙ f (none-applies (reasons c v) none)
+  by-done c a y m h f = grind (arith, nat_tests)
 
   take-marks : (d : ℕ) (st : Stream) → NoneApplies (reasons (take d st) v) → mark_in d (does (take d st) v).leaves ≡ Some (Some st.newer)
-  take-marks d st no' =
-      let i = place_of d v.disks in
-      let cs = front 0 st.changes in
-      let w = changes_at i cs v in
-      marked-at d w _ i (sym (changes-place i d cs v)) (rw (changes-there i cs v) (disk-there d v.disks no'.0)) refl
+  take-marks d st no' = grind (arith, nat_tests, changes-place, changes-there, disk-there, marked-at)
 
   marked-in : Marked v
   marked-in =

@@ -1,33 +1,34 @@
 -- What becomes free by a call, when it may be used again, and that a release tells it beforehand from one list.
-use Rattle.std.proofs.Common.{◌≡◌, ℕ, suc, ◌<◌, ◌≤◌, Bool, true, false, ◌⊎◌, List, [], ◌∷◌, ◌++◌, length, Some, None, Ok, Err, Option, Result, sym, refl, ap, ◌∙◌, subst, inl, inr, ⊎_elim, arith}
+use Rattle.std.proofs.lemmas.Bool.Decides.{nat_tests}
+use Rattle.std.proofs.Common.{◌≡◌, ℕ, suc, ◌<◌, ◌≤◌, Bool, true, false, ◌⊎◌, List, [], ◌∷◌, ◌++◌, length, Some, None, Ok, Err, Option, Result, sym, refl, ap, ◌∙◌, subst, ⊎_elim, arith}
 use mathlib.Core.List.{Memᴰ}
 use Rattle.std.proofs.lemmas.List.{nil_from_length}
-use Rattle.std.proofs.lemmas.Bool.{or_parts, true≢false, ltb-true, lt-ltb, ltb-false, eqb-true, eq-eqb, not-false}
+use Rattle.std.proofs.lemmas.Bool.{false_from_ne_true, or_parts, true≢false, ltb-true, ltb-false, eqb-true, eq-eqb, not-false}
 use Rattle.rules.specs.Limits.{most_slots}
 use Rattle.rules.specs.declared.refusal.Refusal.{Refusal}
 use Rattle.rules.specs.declared.refusal.Refusal.TheVariants.{Missing, Copied, Spent}
-use Rattle.model.specs.Blocks.{frees, is, has, use_at, used_at, is_used, is_spare, usable, lowest_in, renew}
+use Rattle.model.specs.Blocks.{is, has, use_at, used_at, is_used, is_spare, usable, lowest_in, renew}
 use Rattle.model.specs.Calls.{Call, write, clear, hold, release, copy, new, drop, take, sync, would, Value, done, count, Done, ask}
 use Rattle.model.specs.Exactly.{Shown, by_disk, by_hold}
-use Rattle.model.specs.Freed.{freed_in, Frees, FreedRight, may, Turning, Told, ToldBefore, OneList, holder}
+use Rattle.model.specs.Freed.{freed_in, Frees, FreedRight, may, Turning, Told, ToldBefore, OneList}
 use Rattle.model.specs.Maps.{rising, shown_in}
 use Rattle.model.specs.Runs.{reasons, refusal, does, decided, step, reached, told}
 use Rattle.model.specs.Sound.{Sound}
 use Rattle.model.specs.Steps.{change}
-use Rattle.model.specs.Steps.{Change, Put, slot_for, put_for, puts_at, change_at, gone_after, synced}
+use Rattle.model.specs.Steps.{Change, Put, slot_for, put_for, puts_at, change_at, synced}
 use Rattle.model.specs.Sums.{bit, sum}
 use Rattle.model.specs.Tests.{front, writes, no_slot, no_holder, no_moment}
-use Rattle.model.specs.Volume.{Volume, hold_place, holder_of, place_of, moment_before, is_copied}
+use Rattle.model.specs.Volume.{Volume, holder_of, place_of, is_copied}
 use Rattle.model.specs.declared.types.Ptr.{Ptr}
 use Rattle.model.specs.declared.types.Slot.TheVariants.{Empty}
 use Rattle.model.specs.declared.types.Use.{Use}
-use Rattle.model.specs.declared.types.Use.TheVariants.{Reserved, Free, Used, Freed}
+use Rattle.model.specs.declared.types.Use.TheVariants.{Free, Used, Freed}
 use Rattle.model.proofs.Blocks.{use-renew}
 use Rattle.model.proofs.Counts.{not_full, passing-free}
 use Rattle.model.proofs.Disks.{disk-there, holder-there, hold-there}
 use Rattle.model.proofs.Frees.{changes-moved, taken_by, front-rises}
 use Rattle.model.proofs.Maps.{rise-from, rise-none}
-use Rattle.model.proofs.Moves.{Moved, not-moved, table-moved, is-used}
+use Rattle.model.proofs.Moves.{Moved, not-moved, table-moved}
 use Rattle.model.proofs.Shows.{shown-used, used-shown}
 use Rattle.model.proofs.Steps.{NoneApplies, none-applies, by-step, slot_small, does-sound, reached-sound}
 use Rattle.model.proofs.Sums.{bit-most, sum_one}
@@ -79,23 +80,21 @@ module _ (v w : Volume) (iv : Sound v) (iw : Sound w) (fs ts : List Ptr) (m : Mo
   gone-after : has b fs ≡ true → Shown w b → ⊥
   gone-after h s = true≢false (sym (shown-used w iw b s) ∙ ap is_used (m.freed b (some_in b fs h)))
 
-  lost : (u u' : Bool) → used_at b v.uses ≡ u → used_at b w.uses ≡ u' → Shown v b → (Shown w b → ⊥) → has b fs ≡ true
-  lost u true e e' s never = absurd (never (used-shown w iw b e'))
-  lost false false e e' s never = absurd (true≢false (sym (shown-used v iv b s) ∙ e))
-  lost true false e e' s never = lt-ltb 0 (sum (is b) fs) (omega (arith, m.counts b, ap bit e, ap bit e'))
+  lost : Shown v b → (Shown w b → ⊥) → has b fs ≡ true
+  lost s never =
+      let was = shown-used v iv b s in
+      let not' : used_at b w.uses ≡ false = false_from_ne_true _ (λ e. never (used-shown w iw b e)) in
+      let l = m.counts b in
+      grind (arith, nat_tests)
 
   pub frees_of : (sum (is b) fs ≤ 1) × (has b fs ≡ true → Shown v b) × (has b fs ≡ true → Shown w b → ⊥) × (Shown v b → (Shown w b → ⊥) → has b fs ≡ true) × (has b fs ≡ true → use_at b w.uses ≡ Freed)
   frees_of = (
     omega (arith, m.used b, bit-most (used_at b v.uses)),
-    (λ h. used-shown v iv b (by_bit (used_at b v.uses) (omega (arith, m.used b, some_in b fs h)))),
+    (λ h. used-shown v iv b (let l = m.used b in let k = some_in b fs h in grind (arith, nat_tests))),
     gone-after,
-    lost (used_at b v.uses) (used_at b w.uses) refl refl,
+    lost,
     (λ h. m.freed b (some_in b fs h)),
   )
-    where
-      by_bit : (u : Bool) → 1 ≤ bit u → u ≡ true
-      by_bit true l = refl
-      by_bit false l = absurd (omega arith)
 
 -- a sync changes nothing of what is shown
 sync-shown : (v : Volume) (b : ℕ) → Shown v b → Shown (synced v) b
@@ -103,41 +102,16 @@ sync-shown v b (by_disk d s p m h e) = by_disk d s p m h e
 sync-shown v b (by_hold d k s p m mk h e) = by_hold d k s p m mk h e
 
 -- is a call a sync
-abbrev is_sync : Call → Bool
-is_sync (write d s bs) = false
-is_sync (clear d s) = false
-is_sync (hold d) = false
-is_sync (release h) = false
-is_sync (copy h) = false
-is_sync new = false
-is_sync (drop d) = false
-is_sync (take d st) = false
-is_sync sync = true
-is_sync (ask q) = false
-
 by-sync : (c : Call) → (c ≡ sync) ⊎ (c ≡ sync → ⊥)
-by-sync (write d s bs) = inr (λ e. true≢false (sym (ap is_sync e)))
-by-sync (clear d s) = inr (λ e. true≢false (sym (ap is_sync e)))
-by-sync (hold d) = inr (λ e. true≢false (sym (ap is_sync e)))
-by-sync (release h) = inr (λ e. true≢false (sym (ap is_sync e)))
-by-sync (copy h) = inr (λ e. true≢false (sym (ap is_sync e)))
-by-sync new = inr (λ e. true≢false (sym (ap is_sync e)))
-by-sync (drop d) = inr (λ e. true≢false (sym (ap is_sync e)))
-by-sync (take d st) = inr (λ e. true≢false (sym (ap is_sync e)))
-by-sync sync = inl refl
-by-sync (ask q) = inr (λ e. true≢false (sym (ap is_sync e)))
+by-sync c = grind (arith, nat_tests)
 
 sync-frees : (v : Volume) (b : ℕ) → Frees sync v b
 sync-frees v b =
-    record { once = omega arith; shown = λ h. absurd (true≢false (sym h)); gone = λ h _. true≢false (sym h); every = λ s never. absurd (never (sync-shown v b s)); waits = λ h. absurd (true≢false (sym h)) }
+    record { once = omega arith; shown = λ h. absurd cc; gone = λ h _. true≢false (sym h); every = λ s never. absurd (never (sync-shown v b s)); waits = λ h. absurd cc }
 
 -- a call that was answered was done
 pub was-done : (c : Call) (v : Volume) (a : Value) → (step c v).answer ≡ Ok a → refusal (reasons c v) ≡ None
-was-done c v a h = go (refusal (reasons c v)) h
-  where
-    go : (f : Option Refusal) → (decided v f (does c v)).answer ≡ Ok a → f ≡ None
-    go None e = refl
-    go (Some r) e = let z : ◌≡◌ {A = ℕ} 0 1 = cc in absurd (omega arith)
+was-done c v a h = grind (arith, nat_tests)
 
 pub done-step : (c : Call) (v : Volume) → refusal (reasons c v) ≡ None → step c v ≡ does c v
 done-step c v e = ap (λ f. decided v f (does c v)) e
@@ -151,11 +125,7 @@ frees-in c v inv none b = ⊎_elim (λ e. subst (λ x. Frees x v b) (sym e) (syn
         let iw = does-sound c v inv (none-applies (reasons c v) none) in
         let r = frees_of v (does c v).leaves inv iw (freed_in c v) (taken_in c v) m b in
         let e = done-step c v none in
-        made r e
-      where
-        made : (sum (is b) (freed_in c v) ≤ 1) × (has b (freed_in c v) ≡ true → Shown v b) × (has b (freed_in c v) ≡ true → Shown (does c v).leaves b → ⊥) × (Shown v b → (Shown (does c v).leaves b → ⊥) → has b (freed_in c v) ≡ true) × (has b (freed_in c v) ≡ true → use_at b (does c v).leaves.uses ≡ Freed) →
-            step c v ≡ does c v → Frees c v b
-        made r e = record { once = r.0; shown = r.1; gone = rw e r.2; every = rw e r.3; waits = rw e r.4 }
+        record { once = r.0; shown = r.1; gone = rw e r.2; every = rw e r.3; waits = rw e r.4 }
 
 pub freed-right : FreedRight
 freed-right n number calls c a h b = let v = reached n number calls in frees-in c v (reached-sound n number calls) (was-done c v a h) b
@@ -177,26 +147,10 @@ put-taken i (c ∷ cs) v p m = go c.bytes (put-taken i cs (change_at i c v) p) m
     go (Some bs) again (Memᴰ.tail k) = omega (arith, again k)
 
 does-puts : (c : Call) (v : Volume) (p : Put) → Memᴰ p (does c v).puts → 0 < sum (is p.block) (taken_in c v)
-does-puts (write d s bs) v p m = put-taken (place_of d v.disks) (change s (Some bs) ∷ []) v p m
-does-puts (clear d s) v p m = elim m [ ]
-does-puts (hold d) v p m = elim m [ ]
-does-puts (release h) v p m = elim m [ ]
-does-puts (copy h) v p m = elim m [ ]
-does-puts new v p m = elim m [ ]
-does-puts (drop d) v p m = elim m [ ]
-does-puts (take d st) v p m = put-taken (place_of d v.disks) (front 0 st.changes) v p m
-does-puts sync v p m = elim m [ ]
-does-puts (ask q) v p m = elim m [ ]
+does-puts c v p m = grind (arith, nat_tests, put-taken)
 
 moved-used : (us us' : List Use) (fs ts : List Ptr) → Moved us us' fs ts → (b : ℕ) → 0 < sum (is b) ts → (use_at b us ≡ Free) × (use_at b us' ≡ Used)
-moved-used us us' fs ts m b l =
-    let was = m.taken b l in
-    let none : bit (used_at b us) ≡ 0 = ap (λ u. bit (is_used u)) was in
-    (was, is-used (use_at b us') (go (used_at b us') (omega (arith, m.counts b, m.used b, none))))
-  where
-    go : (u : Bool) → 1 ≤ bit u → u ≡ true
-    go true k = refl
-    go false k = absurd (omega arith)
+moved-used us us' fs ts m b l = grind (arith, nat_tests)
 
 pub puts-in : (c : Call) (v : Volume) → Sound v → (p : Put) → Memᴰ p (step c v).puts → (use_at p.block v.uses ≡ Free) × (use_at p.block (step c v).leaves.uses ≡ Used)
 puts-in c v inv p =
@@ -215,10 +169,7 @@ turning n number calls c =
     }
   where
     renew-other : (u : Use) → (u ≡ Freed → ⊥) → renew u ≡ u
-    renew-other Reserved ne = refl
-    renew-other Free ne = refl
-    renew-other Used ne = refl
-    renew-other Freed ne = absurd (ne refl)
+    renew-other u ne = grind (arith, nat_tests)
 
 -- A RELEASE tells beforehand what it frees
 told_in : (v : Volume) → Sound v → (h : ℕ) → Told v h
@@ -239,15 +190,10 @@ told_in v inv h =
   where
     -- by the tests of both: no hold, a copy, and no moment
     alike : (a b c : Bool) (x y : Done) → x.answer ≡ Ok (told (would h) v) → (r : Refusal) → (decided v (refusal ((Missing, a) ∷ (Copied, b) ∷ [])) x).answer ≡ Err r → (decided v (refusal ((Missing, a) ∷ (Copied, b) ∷ (Spent, c) ∷ [])) y).answer ≡ Err r
-    alike true b c x y k r e = e
-    alike false true c x y k r e = e
-    alike false false c x y k r e = let q : Ok (told (would h) v) ≡ Err r = sym k ∙ e in let z : ◌≡◌ {A = ℕ} 0 1 = cc in absurd (omega arith)
+    alike a b c x y k r e = grind (arith, nat_tests)
 
     spent-only : (a b c : Bool) (x y : Done) → y.answer ≡ Ok done → (n : ℕ) (r : Refusal) → (decided v (refusal ((Missing, a) ∷ (Copied, b) ∷ [])) x).answer ≡ Ok (count n) → (decided v (refusal ((Missing, a) ∷ (Copied, b) ∷ (Spent, c) ∷ [])) y).answer ≡ Err r → r ≡ Spent
-    spent-only true b c x y k n r e f = let z : ◌≡◌ {A = ℕ} 0 1 = cc in absurd (omega arith)
-    spent-only false true c x y k n r e f = let z : ◌≡◌ {A = ℕ} 0 1 = cc in absurd (omega arith)
-    spent-only false false true x y k n r e f = let q : Spent ≡ r = cc in sym q
-    spent-only false false false x y k n r e f = let q : Ok done ≡ Err r = sym k ∙ f in let z : ◌≡◌ {A = ℕ} 0 1 = cc in absurd (omega arith)
+    spent-only a b c x y k n r e f = grind (arith, nat_tests)
 
     same_count : (a b : ℕ) → ◌≡◌ {A = Result Value Refusal} (Ok (count a)) (Ok (count b)) → a ≡ b
     same_count a b e = cc
@@ -256,4 +202,4 @@ pub told-before : ToldBefore
 told-before n number calls h = told_in (reached n number calls) (reached-sound n number calls) h
 
 pub one_list : OneList
-one_list v w h k e t = ap (λ g. frees (moment_before (hold_place h (holder h v).holds) (holder h v)) g) e ∙ ap (λ m. frees m (gone_after (hold_place k (holder k w).holds) (holder k w))) t
+one_list v w h k e t = grind (arith, nat_tests)

@@ -1,12 +1,12 @@
 -- Each step keeps what holds of a volume.
-use Rattle.std.proofs.Common.{◌≡◌, ℕ, suc, ◌+◌, ◌-◌, ◌<◌, ◌≤◌, true, false, ◌||◌, ltb, leb, List, [], ◌∷◌, ◌++◌, length, set, Some, None, Option, sym, refl, ap, ◌∙◌, ⊎_elim, arith}
+use Rattle.std.proofs.Common.{◌≡◌, ℕ, suc, ◌+◌, ◌-◌, ◌<◌, ◌≤◌, true, false, ◌||◌, ltb, leb, List, [], ◌∷◌, ◌++◌, length, set, Some, None, Option, sym, refl, ap, ◌∙◌, arith}
 use Rattle.std.specs.List.{remove, AllByRecursion}
 use Rattle.std.proofs.ByRecursion.{All-weaker, All-set, All-get_or, All-push}
 use Rattle.std.proofs.lemmas.List.{length-map}
-use Rattle.std.proofs.lemmas.Bool.{eqb-false, eq-eqb, ne_eqb, cases_eq}
+use Rattle.std.proofs.lemmas.Bool.{eqb-false, ne_eqb}
 use Rattle.std.proofs.lemmas.Bool.Decides.{nat_tests}
 use Rattle.rules.specs.Limits.{first_block, most_slots}
-use Rattle.model.specs.Blocks.{frees, is, is_reserved, use_at, is_used, free_all, used_by, renew}
+use Rattle.model.specs.Blocks.{frees, is, free_all, used_by}
 use Rattle.model.specs.Holds.{Past, past, find, find_hold, past_of, base, named, names_in}
 use Rattle.model.specs.Maps.{Map, shown_in, shown_by, rising}
 use Rattle.model.specs.Sound.{Line, own, own_in, Known, DiskOk, Sound}
@@ -15,7 +15,6 @@ use Rattle.model.specs.Sums.{bit, sum}
 use Rattle.model.specs.Volume.{Hold, Disk, Volume, blank, no_hold, disk_at, hold_at, hold_named, holder_of, copy_of, since, moment_last}
 use Rattle.model.specs.declared.types.HoldHead.{HoldHead}
 use Rattle.model.specs.declared.types.Mark.{Mark}
-use Rattle.model.specs.declared.types.Origin.{Origin}
 use Rattle.model.specs.declared.types.Ptr.{Ptr}
 use Rattle.model.specs.declared.types.Slot.{Slot}
 use Rattle.model.specs.declared.types.Slot.TheVariants.{Empty}
@@ -27,16 +26,11 @@ use Rattle.model.proofs.Sums.{sum-push, sum-set, sum-removed, sum-at, sum-frees,
 use Rattle.model.proofs.Tables.{Usable, InUse, length-table, table-counts, table-reserved}
 
 -- the moment and the names grow
-known-later : (names names' : ℕ) (f : Option Origin) (q : Past) → names ≤ names' → Known names f q → Known names' f q
-known-later names names' None q le k = tt
-known-later names names' (Some o) q le k = (omega (arith, k.0), k.1, k.2)
+known-later : (names names' : ℕ) (f : Option HoldHead) (q : Past) → names ≤ names' → Known names f q → Known names' f q
+known-later names names' f q le k = grind (arith, nat_tests)
 
 pub disk-later : (now now' names names' : ℕ) (q : Past) (d : Disk) → now ≤ now' → names ≤ names' → DiskOk now names q d → DiskOk now' names' q d
-disk-later now now' names names' q d a b ok =
-    record {
-      origin = known-later names names' d.from q b ok.origin;
-      line = line-later now now' names names' (since d.from) q.shows d.holds d.shows d.gone a b ok.line;
-    }
+disk-later now now' names names' q d a b ok = grind (arith, nat_tests, known-later, line-later)
 
 -- names that were given are below the next
 hold-names : (names x : ℕ) (hs : List Hold) → names ≤ x → AllByRecursion (λ h. h.name < names) hs → sum (λ h. named x h.name) hs ≡ 0
@@ -47,7 +41,7 @@ line-names : (now names k : ℕ) (q : Map) (hs : List Hold) (m : Map) (g : List 
 line-names now names k q [] m g ok = tt
 line-names now names k q (h ∷ hs) m g ok = (ok.0.name, line-names now names h.moment h.shows hs m g ok.1)
 
-no_name : (now names n x : ℕ) (base' : Option Origin → Past) (ds : List Disk) → names ≤ x → AllByRecursion (λ d. DiskOk now names (base' d.from) d) ds → rising names n (disk_names ds) ≡ true → sum (names_in x) ds ≡ 0
+no_name : (now names n x : ℕ) (base' : Option HoldHead → Past) (ds : List Disk) → names ≤ x → AllByRecursion (λ d. DiskOk now names (base' d.from) d) ds → rising names n (disk_names ds) ≡ true → sum (names_in x) ds ≡ 0
 no_name now names n x base' [] le all h = refl
 no_name now names n x base' (d ∷ ds) le all h =
     let p = rise-parts names n d.name (disk_names ds) h in
@@ -57,16 +51,15 @@ no_name now names n x base' (d ∷ ds) le all h =
 
 -- one name more, or a name less
 more-once : (names x a b : ℕ) → a ≤ 1 → (x ≡ names → a ≡ 0) → b ≡ a + named x names → b ≤ 1
-more-once names x a b one none e =
-    ⊎_elim (λ (s : x ≡ names). omega (arith, none s, ap bit (eq-eqb names x (sym s)))) (λ (s : x ≡ names → ⊥). omega (arith, ap bit (ne_eqb names x (λ q. s (sym q))))) (cases_eq x names)
+more-once names x a b one none e = grind (arith, nat_tests)
 
 -- ONE DISK is changed: fs becomes free, and the block of x is taken into use. K: the origins that are found as before.
-pub record Turn (v : Volume) (i : ℕ) (d : Disk) (names : ℕ) (x : Slot) (fs : List Ptr) (K : Option Origin → Type 0) : Type 0 where
+pub record Turn (v : Volume) (i : ℕ) (d : Disk) (names : ℕ) (x : Slot) (fs : List Ptr) (K : Option HoldHead → Type 0) : Type 0 where
   pub name : d.name ≡ (disk_at i v.disks).name
   pub more : v.names ≤ names
   pub kept : AllByRecursion (λ e. K e.from) v.disks
   pub here : K d.from
-  pub finds : (o : Origin) → K (Some o) → find_hold o.hold d.holds ≡ find_hold o.hold (disk_at i v.disks).holds
+  pub finds : (o : HoldHead) → K (Some o) → find_hold o.name d.holds ≡ find_hold o.name (disk_at i v.disks).holds
   pub ok : DiskOk (v.moment + 1) names (base v.disks d.from) d
   pub once : (y : ℕ) → sum (names_in y) (set v.disks i d) ≤ 1
   pub owns : (w : Ptr → ℕ) → own w d + sum w fs ≡ own w (disk_at i v.disks) + sum w (shown_in x)
@@ -78,14 +71,14 @@ module _ (v : Volume) (inv : Sound v) where
   pub own-used : (i : ℕ) → i < length v.disks → (fs : List Ptr) → ((w : Ptr → ℕ) → sum w fs ≤ own w (disk_at i v.disks)) → InUse fs v.uses
   own-used i lt fs within c = omega (arith, within (is c), sum-at (own (is c)) v.disks i blank lt, inv.counts c)
 
-  pub turn-sound : (i : ℕ) → i < length v.disks → (d : Disk) (names : ℕ) (x : Slot) (fs : List Ptr) (K : Option Origin → Type 0) → Turn v i d names x fs K →
+  pub turn-sound : (i : ℕ) → i < length v.disks → (d : Disk) (names : ℕ) (x : Slot) (fs : List Ptr) (K : Option HoldHead → Type 0) → Turn v i d names x fs K →
       Sound (changed i d names (used_by x (free_all fs v.uses)) v)
   turn-sound i lt d names x fs K t =
       let ds = v.disks in
       let P : Disk → Type 0 = λ e. K e.from × DiskOk (v.moment + 1) names (base ds e.from) e in
       let used = own-used i lt fs t.within in
       record {
-        each = All-weaker P _ (λ e p. rw (base_same ds (set ds i d) K (λ o k. find-set o.hold ds i d (t.finds o k)) e.from p.0) p.1) (set ds i d)
+        each = All-weaker P _ (λ e p. rw (base_same ds (set ds i d) K (λ o k. find-set o.name ds i d (t.finds o k)) e.from p.0) p.1) (set ds i d)
             (All-set P ds i d (t.here, t.ok)
             (All-weaker _ P (λ e p. (p.0, disk-later v.moment (v.moment + 1) v.names names (base ds e.from) e (omega arith) t.more p.1)) ds (all_both _ _ ds t.kept inv.each)));
         begun = omega (arith, inv.begun, t.more);
@@ -102,7 +95,7 @@ module _ (v : Volume) (inv : Sound v) where
   pub disk-ok : (i : ℕ) → i < length v.disks → DiskOk v.moment v.names (base v.disks (disk_at i v.disks).from) (disk_at i v.disks)
   disk-ok i lt = All-get_or _ v.disks i blank lt inv.each
 
-  abbrev Any : Option Origin → Type 0
+  abbrev Any : Option HoldHead → Type 0
   Any f = Unit {0}
 
   all_any : AllByRecursion (λ e. Any e.from) v.disks
@@ -130,13 +123,12 @@ module _ (v : Volume) (inv : Sound v) where
       })
 
   -- a disk is held
-  abbrev Below : Option Origin → Type 0
+  abbrev Below : Option HoldHead → Type 0
   Below None = Unit {0}
-  Below (Some o) = o.hold < v.names
+  Below (Some o) = o.name < v.names
 
-  below : (f : Option Origin) (q : Past) → Known v.names f q → Below f
-  below None q k = tt
-  below (Some o) q k = k.0
+  below : (f : Option HoldHead) (q : Past) → Known v.names f q → Below f
+  below f q k = grind (arith, nat_tests)
 
   pub unnamed : (y : ℕ) → v.names ≤ y → sum (names_in y) v.disks ≡ 0
   unnamed y le = no_name v.moment v.names 0 y (base v.disks) v.disks le inv.each inv.order
@@ -155,7 +147,7 @@ module _ (v : Volume) (inv : Sound v) where
         more = omega arith;
         kept = All-weaker _ _ (λ e p. below e.from (base v.disks e.from) p.origin) v.disks inv.each;
         here = below d.from (base v.disks d.from) ok.origin;
-        finds = λ o less. held-finds o.hold v.moment v.names d.holds d.shows d.gone (λ e. omega (arith, less));
+        finds = λ o less. held-finds o.name v.moment v.names d.holds d.shows d.gone (λ e. omega (arith, less));
         ok = record {
           origin = known-later v.names (v.names + 1) d.from (base v.disks d.from) (omega arith) ok.origin;
           line = held-line v.moment v.names k q d.holds d.shows d.gone inv.begun ok.line;
@@ -192,7 +184,7 @@ module _ (v : Volume) (inv : Sound v) where
         more = omega arith;
         kept = alone;
         here = All-get_or _ v.disks i blank lt alone;
-        finds = λ o c. release-finds o.hold j (joined j d) d.holds within (eqb-false o.hold n c);
+        finds = λ o c. release-finds o.name j (joined j d) d.holds within (eqb-false o.name n c);
         ok = record {
           origin = ok.origin;
           line = line-later v.moment (v.moment + 1) v.names v.names k q (released j d).holds d.shows (released j d).gone (omega arith) (omega arith)
@@ -207,9 +199,7 @@ module _ (v : Volume) (inv : Sound v) where
 
   -- a disk without holds is dropped
   drop_own : (i : ℕ) → i < length v.disks → (disk_at i v.disks).holds ≡ [] → (w : Ptr → ℕ) → own w (disk_at i v.disks) ≡ sum w (freed_with (disk_at i v.disks))
-  drop_own i lt bare w =
-      let d = disk_at i v.disks in
-      ap (λ hs. own_in w (since d.from) hs d.shows) bare ∙ sym (sum-frees w (since d.from) (shown_by d.shows))
+  drop_own i lt bare w = grind (arith, nat_tests, sum-frees)
 
   pub drop-used : (i : ℕ) → i < length v.disks → (disk_at i v.disks).holds ≡ [] → InUse (freed_with (disk_at i v.disks)) v.uses
   drop-used i lt bare = own-used i lt (freed_with (disk_at i v.disks)) (λ w. omega (arith, drop_own i lt bare w))
@@ -221,7 +211,7 @@ module _ (v : Volume) (inv : Sound v) where
       let own' = drop_own i lt bare in
       let used = drop-used i lt bare in
       record {
-        each = All-weaker _ _ (λ e ok. rw (base_same ds (remove ds i) Any (λ o _. find-removed o.hold ds i lt bare) e.from tt) (disk-later v.moment (v.moment + 1) v.names v.names (base ds e.from) e (omega arith) (omega arith) ok)) (remove ds i)
+        each = All-weaker _ _ (λ e ok. rw (base_same ds (remove ds i) Any (λ o _. find-removed o.name ds i lt bare) e.from tt) (disk-later v.moment (v.moment + 1) v.names v.names (base ds e.from) e (omega arith) (omega arith) ok)) (remove ds i)
             (all-removed _ ds i inv.each);
         begun = inv.begun;
         order = rise-removed v.names 0 ds i inv.order;
@@ -231,12 +221,12 @@ module _ (v : Volume) (inv : Sound v) where
       }
 
   -- one disk more
-  grow-sound : (f : Option Origin) (m : Map) → Known v.names f (base v.disks f) → Line (v.moment + 1) (v.names + 1) (since f) (base v.disks f).shows [] m [] → ((w : Ptr → ℕ) → own_in w (since f) [] m ≡ 0) → Sound (grown f m v)
+  grow-sound : (f : Option HoldHead) (m : Map) → Known v.names f (base v.disks f) → Line (v.moment + 1) (v.names + 1) (since f) (base v.disks f).shows [] m [] → ((w : Ptr → ℕ) → own_in w (since f) [] m ≡ 0) → Sound (grown f m v)
   grow-sound f m known line none =
       let ds = v.disks in
       let d = fresh v.names f m in
       record {
-        each = All-weaker (λ e. DiskOk (v.moment + 1) (v.names + 1) (base ds e.from) e) _ (λ e ok. rw (base_same ds (ds ++ d ∷ []) Any (λ o _. find-push o.hold ds d refl) e.from tt) ok) (ds ++ d ∷ [])
+        each = All-weaker (λ e. DiskOk (v.moment + 1) (v.names + 1) (base ds e.from) e) _ (λ e ok. rw (base_same ds (ds ++ d ∷ []) Any (λ o _. find-push o.name ds d refl) e.from tt) ok) (ds ++ d ∷ [])
             (All-push _ ds d (All-weaker _ _ (λ e ok. disk-later v.moment (v.moment + 1) v.names (v.names + 1) (base ds e.from) e (omega arith) (omega arith) ok) ds inv.each)
             (record { origin = known-later v.names (v.names + 1) f (base ds f) (omega arith) known; line = line }));
         begun = omega arith;
@@ -261,15 +251,7 @@ module _ (v : Volume) (inv : Sound v) where
 
   -- a sync
   pub sync-sound : Sound (synced v)
-  sync-sound =
-      record {
-        each = inv.each;
-        begun = inv.begun;
-        order = inv.order;
-        once = inv.once;
-        counts = λ c. inv.counts c ∙ sym (ap bit (ap is_used (use-renew c v.uses) ∙ used-renew (use_at c v.uses)));
-        reserved = λ c. ap is_reserved (use-renew c v.uses) ∙ reserved-renew (use_at c v.uses) ∙ inv.reserved c ∙ ap (λ n. ltb c first_block || leb n c) (sym (length-map v.uses renew));
-      }
+  sync-sound = grind (arith, nat_tests, length-map, reserved-renew, use-renew, used-renew)
 
 -- as it is formatted
 pub start-sound : (n number : ℕ) → Sound (start n number)

@@ -1,6 +1,7 @@
 -- Exactly the blocks are in use that some disk or hold shows. Assumes nothing.
-use Rattle.std.specs.Prelude.{◌≡◌, ℕ, ◌<◌, ◌≤◌, Bool, true, false, ◌||◌, List, [], ◌∷◌, length}
+use Rattle.std.specs.Prelude.{◌≡◌, ℕ, ◌<◌, ◌≤◌, Bool, true, ◌||◌, List, length}
 use mathlib.Core.List.{Memᴰ}
+use Rattle.std.specs.List.{list_any}
 use Rattle.rules.specs.Limits.{first_block}
 use Rattle.model.specs.Blocks.{has, used_at}
 use Rattle.model.specs.Calls.{Call}
@@ -17,12 +18,10 @@ pub data Shown (v : Volume) (b : ℕ) : Type 0 where
 
 -- a count from nothing: is the block in some map
 abbrev pub in_holds : ℕ → List Hold → Bool
-in_holds b [] = false
-in_holds b (h ∷ hs) = has b (shown_by h.shows) || in_holds b hs
+in_holds b hs = list_any (λ h. has b (shown_by h.shows)) hs
 
 abbrev pub recount : ℕ → List Disk → Bool
-recount b [] = false
-recount b (d ∷ ds) = (has b (shown_by d.shows) || in_holds b d.holds) || recount b ds
+recount b ds = list_any (λ d. has b (shown_by d.shows) || in_holds b d.holds) ds
 
 -- A block is in use if and only if it is shown; that is what a count from nothing finds; and it is none of the roots' and areas' blocks,
 -- and a block of the device.

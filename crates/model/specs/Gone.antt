@@ -9,7 +9,7 @@ use Rattle.model.specs.Runs.{reached}
 use Rattle.model.specs.Steps.{gone_at}
 use Rattle.model.specs.Sums.{sum}
 use Rattle.model.specs.Volume.{Hold, Disk, Volume}
-use Rattle.model.specs.declared.types.Origin.{Origin}
+use Rattle.model.specs.declared.types.HoldHead.{HoldHead}
 use Rattle.model.specs.declared.types.Ptr.{Ptr}
 use Rattle.model.specs.declared.types.Slot.TheVariants.{At}
 
@@ -41,7 +41,7 @@ map_before q (suc j) (h ∷ hs) = map_before h.shows j hs
 -- Gone of each hold of a disk, and of its present, is right; before the oldest comes the hold that the disk was copied from, which is there.
 pub record GoneIsRight (v : Volume) (d : Disk) : Type 0 where
   pub lists : (j b : ℕ) → j ≤ length d.holds → Lists (map_before (base v.disks d.from).shows j d.holds) (map_at j d.holds d.shows) (gone_at j d.holds d.gone) b
-  pub origin : (o : Origin) → d.from ≡ Some o → (p : Past) × (find o.hold v.disks ≡ Some p) × (p.moment ≡ o.moment)
+  pub origin : (o : HoldHead) → d.from ≡ Some o → (p : Past) × (find o.name v.disks ≡ Some p) × (p.moment ≡ o.moment)
 
 abbrev pub GoneRight : Type 0
 GoneRight = (blocks number : ℕ) (calls : List Call) (d : Disk) → let v = reached blocks number calls in Memᴰ d v.disks → GoneIsRight v d

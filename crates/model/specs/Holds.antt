@@ -1,9 +1,10 @@
 -- Holds by their names, and what comes before a disk. Assumes nothing.
 use Rattle.std.specs.Prelude.{ℕ, ◌+◌, cond, List, [], ◌∷◌, Some, None, Option, ◌==◌}
+use Rattle.std.specs.Option.{option_or}
 use Rattle.model.specs.Maps.{Map}
 use Rattle.model.specs.Sums.{bit, sum}
 use Rattle.model.specs.Volume.{Hold, Disk}
-use Rattle.model.specs.declared.types.Origin.{Origin}
+use Rattle.model.specs.declared.types.HoldHead.{HoldHead}
 
 -- the hold of a name: when it was made, and what it shows
 pub record Past : Type 0 where
@@ -16,26 +17,22 @@ nothing = record { moment = 0; shows = [] }
 abbrev pub past : Hold → Past
 past h = record { moment = h.moment; shows = h.shows }
 
-abbrev pub or_else : Option Past → Option Past → Option Past
-or_else None g = g
-or_else (Some p) g = Some p
-
 abbrev pub find_hold : ℕ → List Hold → Option Past
 find_hold x [] = None
 find_hold x (h ∷ hs) = cond (h.name == x) (Some (past h)) (find_hold x hs)
 
 abbrev pub find : ℕ → List Disk → Option Past
 find x [] = None
-find x (d ∷ ds) = or_else (find_hold x d.holds) (find x ds)
+find x (d ∷ ds) = option_or (find_hold x d.holds) (find x ds)
 
 abbrev pub past_of : Option Past → Past
 past_of None = nothing
 past_of (Some p) = p
 
 -- what comes before a disk's oldest version: the hold that it was copied from, or nothing
-abbrev pub base : List Disk → Option Origin → Past
+abbrev pub base : List Disk → Option HoldHead → Past
 base ds None = nothing
-base ds (Some o) = past_of (find o.hold ds)
+base ds (Some o) = past_of (find o.name ds)
 
 -- how many disks and holds have a name
 abbrev pub named : ℕ → ℕ → ℕ

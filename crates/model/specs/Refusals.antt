@@ -8,8 +8,8 @@ use Rattle.model.specs.Calls.{Stream, Call, Value}
 use Rattle.model.specs.Runs.{reasons, does, step}
 use Rattle.model.specs.Tests.{no_disk, no_holder, changes_rise, follows, unfit}
 use Rattle.model.specs.Volume.{Hold, Disk, Volume, is_copied}
+use Rattle.model.specs.declared.types.HoldHead.{HoldHead}
 use Rattle.model.specs.declared.types.Mark.{Mark}
-use Rattle.model.specs.declared.types.Origin.{Origin}
 use Rattle.model.specs.declared.types.Use.TheVariants.{Free}
 
 abbrev pub Applies : Refusal → Call → Volume → Type 0
@@ -32,7 +32,7 @@ Judgement = (c : Call) (v : Volume) → Judged c v
 pub record Meant (v : Volume) : Type 0 where
   pub disk : (d : ℕ) → Decides (no_disk d v) ((e : Disk) → Memᴰ e v.disks → e.name ≢ d)
   pub hold : (h : ℕ) → Decides (no_holder h v) ((e : Disk) (k : Hold) → Memᴰ e v.disks → Memᴰ k e.holds → k.name ≢ h)
-  pub copied : (h : ℕ) → Decides (is_copied h v.disks) ((e : Disk) × (o : Origin) × Memᴰ e v.disks × (e.from ≡ Some o) × (o.hold ≡ h))
+  pub copied : (h : ℕ) → Decides (is_copied h v.disks) ((e : Disk) × (o : HoldHead) × Memᴰ e v.disks × (e.from ≡ Some o) × (o.name ≡ h))
   pub full : Decides (is_full v.uses) ((b : ℕ) → use_at b v.uses ≢ Free)
   -- the block that is written may be used, and no lower one may
   pub chosen : is_full v.uses ≡ false → (use_at (lowest_in v.uses) v.uses ≡ Free) × ((b : ℕ) → b < lowest_in v.uses → use_at b v.uses ≢ Free)

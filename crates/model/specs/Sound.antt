@@ -7,7 +7,7 @@ use Rattle.model.specs.Holds.{Past, base, names_in}
 use Rattle.model.specs.Maps.{Map, look_in, shown_by, rising, slots_rise}
 use Rattle.model.specs.Sums.{bit, sum}
 use Rattle.model.specs.Volume.{Hold, Disk, Volume, since, area_bytes}
-use Rattle.model.specs.declared.types.Origin.{Origin}
+use Rattle.model.specs.declared.types.HoldHead.{HoldHead}
 use Rattle.model.specs.declared.types.Ptr.{Ptr}
 use Rattle.model.specs.declared.types.Slot.TheVariants.{At}
 
@@ -52,9 +52,9 @@ Line now names k q [] m g = Version now k q m g
 Line now names k q (h ∷ hs) m g = HoldOk now names k q h × Line now names h.moment h.shows hs m g
 
 -- A copy knows the name and the moment of the hold that it was copied from.
-abbrev pub Known : (names : ℕ) → Option Origin → Past → Type 0
+abbrev pub Known : (names : ℕ) → Option HoldHead → Past → Type 0
 Known names None q = Unit {0}
-Known names (Some o) q = (o.hold < names) × (0 < o.moment) × (o.moment ≡ q.moment)
+Known names (Some o) q = (o.name < names) × (0 < o.moment) × (o.moment ≡ q.moment)
 
 pub record DiskOk (now names : ℕ) (q : Past) (d : Disk) : Type 0 where
   pub origin : Known names d.from q

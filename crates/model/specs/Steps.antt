@@ -6,14 +6,13 @@ use Rattle.model.specs.Maps.{Map, look_in, set_in, shown_in, shown_by}
 use Rattle.model.specs.Volume.{Hold, Disk, Volume, disk_at, hold_at, since, moment_before, moment_last}
 use Rattle.model.specs.declared.types.HoldHead.{HoldHead}
 use Rattle.model.specs.declared.types.Mark.{Mark}
-use Rattle.model.specs.declared.types.Origin.{Origin}
 use Rattle.model.specs.declared.types.Ptr.{Ptr}
 use Rattle.model.specs.declared.types.Slot.{Slot}
 use Rattle.model.specs.declared.types.Slot.TheVariants.{Empty, At}
 use Rattle.model.specs.declared.types.Use.{Use}
 
 -- A disk as it is made: without holds.
-abbrev pub fresh : ℕ → Option Origin → Map → Disk
+abbrev pub fresh : ℕ → Option HoldHead → Map → Disk
 fresh n f m = record { name = n; from = f; mark = None; holds = []; shows = m; gone = [] }
 
 -- A volume as it is formatted: an empty disk 0.
@@ -128,11 +127,11 @@ abbrev pub release_at : ℕ → ℕ → Volume → Volume
 release_at i k v = let d = disk_at i v.disks in changed i (released k d) v.names (free_all (freed_by k d) v.uses) v
 
 -- COPY AND NEW. One disk more, with the next name, behind the others.
-abbrev pub grown : Option Origin → Map → Volume → Volume
+abbrev pub grown : Option HoldHead → Map → Volume → Volume
 grown f m v = record { number = v.number; moment = v.moment + 1; names = v.names + 1; disks = v.disks ++ fresh v.names f m ∷ []; uses = v.uses }
 
-abbrev pub origin_of : Hold → Option Origin
-origin_of h = Some (record { hold = h.name; moment = h.moment })
+abbrev pub origin_of : Hold → Option HoldHead
+origin_of h = Some (record { name = h.name; moment = h.moment })
 
 -- DROP. What the disk shows and was born after the moment of the hold that it was copied from becomes free.
 abbrev pub freed_with : Disk → List Ptr

@@ -1,5 +1,6 @@
 -- The tests by which calls are refused. Assumes nothing.
-use Rattle.std.specs.Prelude.{ℕ, suc, ◌+◌, Bool, true, false, cond, not, ◌&&◌, ◌||◌, List, [], ◌∷◌, map, length, Some, None, Option, ◌==◌, nat_le, nat_lt}
+use Rattle.std.specs.Prelude.{ℕ, suc, ◌+◌, Bool, false, cond, not, ◌&&◌, ◌||◌, List, [], ◌∷◌, map, length, Some, None, Option, ◌==◌, nat_le, nat_lt}
+use Rattle.std.specs.Option.{is_none}
 use Rattle.rules.specs.Limits.{most_disks, most_holds, most_slots, area_room, moment_end, name_end}
 use Rattle.model.specs.Calls.{Stream}
 use Rattle.model.specs.Maps.{rising}
@@ -62,10 +63,6 @@ same_mark a b = a.number == b.number && a.moment == b.moment
 abbrev pub has_mark : Option Mark → Mark → Bool
 has_mark None m = false
 has_mark (Some n) m = same_mark n m
-
-abbrev pub is_none : {X : Type 0} → Option X → Bool
-is_none None = true
-is_none (Some x) = false
 
 abbrev pub is_new : Disk → Bool
 is_new d = is_none d.from && (is_none d.mark && (no_holds d && length d.shows == 0))

@@ -1,10 +1,10 @@
 -- What a volume is made of. Assumes nothing.
-use Rattle.std.specs.Prelude.{ℕ, zero, suc, ◌+◌, ◌*◌, Bool, false, cond, not, ◌||◌, List, [], ◌∷◌, length, Some, None, Option, ◌==◌, nat_lt, slice_index_or}
-use Rattle.std.specs.List.{prefix_len}
+use Rattle.std.specs.Prelude.{ℕ, zero, suc, ◌+◌, ◌*◌, Bool, false, cond, not, List, [], ◌∷◌, length, Some, None, Option, ◌==◌, nat_lt, slice_index_or}
+use Rattle.std.specs.List.{list_any, prefix_len}
 use Rattle.model.specs.Maps.{Map}
 use Rattle.model.specs.Sums.{sum}
+use Rattle.model.specs.declared.types.HoldHead.{HoldHead}
 use Rattle.model.specs.declared.types.Mark.{Mark}
-use Rattle.model.specs.declared.types.Origin.{Origin}
 use Rattle.model.specs.declared.types.Ptr.{Ptr}
 use Rattle.model.specs.declared.types.Use.{Use}
 
@@ -16,11 +16,12 @@ pub record Hold : Type 0 where
   pub shows : Map
   pub gone : List Ptr
 
--- A disk: its name; the hold that it was copied from, or none; the mark of the stream that it took last, or none if it was written since;
--- its holds, the oldest first; what it shows at present, and the blocks that its newest hold shows and its present doesn't.
+-- A disk: its name; the hold that it was copied from (the origin of a clone), or none; the mark of the stream that it took last, or none if
+-- it was written since; its holds, the oldest first; what it shows at present, and the blocks that its newest hold shows and its present
+-- doesn't.
 pub record Disk : Type 0 where
   pub name : ℕ
-  pub from : Option Origin
+  pub from : Option HoldHead
   pub mark : Option Mark
   pub holds : List Hold
   pub shows : Map
@@ -73,17 +74,16 @@ abbrev pub hold_named : ℕ → List Disk → Hold
 hold_named n ds = let hs = (disk_at (holder_of n ds) ds).holds in hold_at (hold_place n hs) hs
 
 -- is a disk a copy of a hold, and is one of these
-abbrev pub copy_of : ℕ → Option Origin → Bool
+abbrev pub copy_of : ℕ → Option HoldHead → Bool
 copy_of n None = false
-copy_of n (Some o) = o.hold == n
+copy_of n (Some o) = o.name == n
 
 abbrev pub is_copied : ℕ → List Disk → Bool
-is_copied n [] = false
-is_copied n (d ∷ ds) = copy_of n d.from || is_copied n ds
+is_copied n ds = list_any (λ d. copy_of n d.from) ds
 
 -- The hold before a hold, or before a disk's present, is the next older one of that disk; before its oldest comes the hold that the disk
 -- was copied from, or nothing, with the moment 0.
-abbrev pub since : Option Origin → ℕ
+abbrev pub since : Option HoldHead → ℕ
 since None = 0
 since (Some o) = o.moment
 

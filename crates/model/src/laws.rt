@@ -10,120 +10,86 @@ ghost use Rattle.model.specs.Stays.{HoldsStay, NamesOnce};
 ghost use Rattle.model.specs.Streams.{StreamsCarry, StreamsTaken};
 
 // After every list of calls exactly the blocks are in use that some disk or hold shows, and that a count from nothing finds.
-pub fn exactly_in_use() -> u8
+pub fn exactly_in_use()
     ensures { Exactly }
-{
-    0
-}
+{}
 
 // What becomes free by a call is what was shown before and isn't after, each block once.
-pub fn freed_right() -> u8
+pub fn freed_right()
     ensures { FreedRight }
-{
-    0
-}
+{}
 
 // No block becomes free but from use; it may be used again after a sync, and only what may be used is written.
-pub fn turned_in_order() -> u8
+pub fn turned_in_order()
     ensures { Turning }
-{
-    0
-}
+{}
 
 // `would` tells how many blocks a release then frees.
-pub fn told_before() -> u8
+pub fn told_before()
     ensures { ToldBefore }
-{
-    0
-}
+{}
 
 // A release looks at one list and one moment, and at nothing else.
-pub fn told_from_one_list() -> u8
+pub fn told_from_one_list()
     ensures { OneList }
-{
-    0
-}
+{}
 
 // No call but its own release changes a hold, its name, its moment, what it shows or the bytes of that.
-pub fn holds_stay() -> u8
+pub fn holds_stay()
     ensures { HoldsStay }
-{
-    0
-}
+{}
 
 // Disks and holds together have each name once, and a name that is gone is never given again.
-pub fn names_once() -> u8
+pub fn names_once()
     ensures { NamesOnce }
-{
-    0
-}
+{}
 
 // Each list of gone blocks has exactly what the one before shows and this one doesn't, each block once.
-pub fn gone_right() -> u8
+pub fn gone_right()
     ensures { GoneRight }
-{
-    0
-}
+{}
 
 // Moments count the changes: what is written is born, and what is held is made, at the moment of the call.
-pub fn moments_count() -> u8
+pub fn moments_count()
     ensures { Timing }
-{
-    0
-}
+{}
 
 // A disk has the mark of the stream that it took, until it is written.
-pub fn marks_right() -> u8
+pub fn marks_right()
     ensures { Marking }
-{
-    0
-}
+{}
 
 // What was written is read, a copy reads as its hold, and everything else as before.
-pub fn reads_right() -> u8
+pub fn reads_right()
     ensures { ReadsRight }
-{
-    0
-}
+{}
 
 // A stream has what changed between two holds of one disk, and nothing else.
-pub fn streams_carry() -> u8
+pub fn streams_carry()
     ensures { StreamsCarry }
-{
-    0
-}
+{}
 
 // A stream taken by a disk that has what the older hold has leaves what the newer has, slot by slot with bytes, and isn't taken twice.
-pub fn streams_taken() -> u8
+pub fn streams_taken()
     ensures { StreamsTaken }
-{
-    0
-}
+{}
 
 // A call is refused by the lowest number that applies, and changes nothing then; where none applies it is done.
-pub fn judged() -> u8
+pub fn judged()
     ensures { Judgement }
-{
-    0
-}
+{}
 
 // What the tests mean by which calls are refused, and which block is chosen.
-pub fn tests_meant() -> u8
+pub fn tests_meant()
     ensures { Meaning }
-{
-    0
-}
+{}
 
 // What was accepted fits its bytes.
-pub fn limits_kept() -> u8
+pub fn limits_kept()
     ensures { LimitsKept }
-{
-    0
-}
+{}
 
 // 8 disks and 16 holds can be there, and not one more.
-pub fn limits_reached() -> u8
+pub fn limits_reached()
     ensures { LimitsReached }
-{
-    0
-}
+{}
