@@ -1,5 +1,4 @@
-mod Callings
 mod Gained
-mod Heeded
-mod Reread
+pub mod Heeded
+pub mod Reread
 mod Solids

@@ -16,24 +16,8 @@ abbrev pub longest : ℕ
 longest = 2097152
 
 abbrev pub is_power : Command → Bool
-is_power command.Format = false
-is_power command.Write = false
-is_power command.Clear = false
-is_power command.Hold = false
-is_power command.Release = false
-is_power command.Would = false
-is_power command.Copy = false
-is_power command.New = false
-is_power command.Drop = false
-is_power command.Read = false
-is_power command.ReadHold = false
-is_power command.Free = false
-is_power command.Sync = false
-is_power command.Stream = false
-is_power command.Take = false
 is_power command.Power = true
-is_power command.Show = false
-is_power command.Listing = false
+is_power c = false
 
 -- What the words behind a command ask for.
 abbrev pub asked_in : Command → List (List ℕ) → Result Asked Why

@@ -36,10 +36,7 @@ pub(crate) fn capped(word: &str) -> Result<u64, Why>
 pub(crate) fn hex<'a>(word: Option<&'a str>) -> Result<Option<Hex<'a>>, Why>
     ensures { mapped_ok (option_map hex_digits) result ≡ hex_at (option_map (λ x. x.now) word.entry) }
 {
-    match word {
-        Some(word) => Ok(Some(Hex::try_from(word)?)),
-        None => Ok(None),
-    }
+    Ok(word.map(Hex::try_from).transpose()?)
 }
 
 // A word as bits; none where there is no word.

@@ -34,6 +34,7 @@ pub const LONGEST: usize = 2097152;
 
 // Reads a line, which comes without its end. Whatever it is, it is skipped, understood, or told what is wrong with it; and a line that
 // was written out from its value is read as that value.
+#[tactic(auto, using(crate::proofs::Reread::written_said, crate::proofs::Reread::written_text, crate::proofs::Heeded::text_heard))]
 pub fn read<'a>(line: &'a [u8]) -> Result<Option<Line<'a>>, Trouble>
     ensures reads { (t : Bool) → Decides t (IsUtf8 line.now) → heard result ≡ reading t line.now }
     ensures again { (l : Said) → Proper l → line.now ≡ written l → heard result ≡ Ok (Some l) }

@@ -4,7 +4,7 @@ use Rattle.std.specs.Option.{option_or}
 use Rattle.rules.specs.Limits.{first_block, volume_of}
 use Rattle.rules.specs.declared.refusal.Refusal.TheVariants.{Missing, NoVolume}
 use Rattle.commands.specs.declared.trouble.Trouble.{Trouble}
-use Rattle.lines.specs.Lines.{Asked, Said, Format, Write, Clear, Hold, Release, Would, Copy, New, Drop, Read, ReadHold, Free, Sync, Stream, Take, Show, Listing, Plain, Power, Cut, mapped_ok}
+use Rattle.lines.specs.Lines.{Asked, Said, Format, Free, Plain, mapped_ok}
 use Rattle.answers.specs.declared.About.TheVariants.{Blocks}
 use Rattle.answers.specs.declared.Answer.{Answer}
 use Rattle.answers.specs.declared.Answer.TheVariants as answer
@@ -46,51 +46,20 @@ later s = up s (λ _. Err NotYet)
 
 abbrev pub answer_to_call : Option Formatted → Asked → Result Answer Failure
 answer_to_call at (Format n v) = format_answer (formatted at n v) n
-answer_to_call at (Write d s ds) = later at
-answer_to_call at (Clear d s) = later at
-answer_to_call at (Hold d) = later at
-answer_to_call at (Release h) = later at
-answer_to_call at (Would h) = later at
-answer_to_call at (Copy h) = later at
-answer_to_call at New = later at
-answer_to_call at (Drop d) = later at
-answer_to_call at (Read d s) = later at
-answer_to_call at (ReadHold h s) = later at
 answer_to_call at Free = free_answer at
-answer_to_call at Sync = later at
-answer_to_call at (Stream a b f) = later at
-answer_to_call at (Take d f) = later at
-answer_to_call at Show = later at
-answer_to_call at Listing = later at
+answer_to_call at a = later at
 
 abbrev pub after_call : Option Formatted → Asked → Option Formatted
 after_call at (Format n v) = option_or (formatted at n v) at
-after_call at (Write d s ds) = at
-after_call at (Clear d s) = at
-after_call at (Hold d) = at
-after_call at (Release h) = at
-after_call at (Would h) = at
-after_call at (Copy h) = at
-after_call at New = at
-after_call at (Drop d) = at
-after_call at (Read d s) = at
-after_call at (ReadHold h s) = at
-after_call at Free = at
-after_call at Sync = at
-after_call at (Stream a b f) = at
-after_call at (Take d f) = at
-after_call at Show = at
-after_call at Listing = at
+after_call at a = at
 
 abbrev pub answer_to_line : Option Formatted → Said → Result Answer Failure
 answer_to_line s (Plain a) = answer_to_call s a
-answer_to_line s (Power b) = later s
-answer_to_line s (Cut b k a) = later s
+answer_to_line s l = later s
 
 abbrev pub after_line : Option Formatted → Said → Option Formatted
 after_line s (Plain a) = after_call s a
-after_line s (Power b) = s
-after_line s (Cut b k a) = s
+after_line s l = s
 
 -- A line that is skipped has no answer, and one that is not understood changes nothing.
 abbrev pub answer_to_reading : Option Formatted → Result (Option Said) Trouble → Result (Option Answer) Failure

@@ -1,75 +1,39 @@
 -- The words of a text are words, and text themselves. Assumes nothing.
-use Rattle.std.proofs.Common.{◌≡◌, ℕ, zero, suc, ◌-◌, ◌<◌, ◌≤◌, Bool, true, false, List, [], ◌∷◌, length, take, drop, IsUtf8, sym, refl, subst, ⊎_elim, one-add, arith, length-drop}
-use Rattle.std.specs.List.{list_all, prefix_len, AllByRecursion}
-use Rattle.std.proofs.lemmas.List.{length-take-le}
-use Rattle.std.proofs.lemmas.List.Sums.{prefix_len-le-length}
-use Rattle.std.proofs.lemmas.Bool.{cases_lt}
-use Rattle.std.proofs.lemmas.Str.{IsUtf8-drop, IsUtf8-take}
-use Rattle.words.specs.declared.byte.Kind.TheVariants.{Blank, Solid as SolidKind}
-use Rattle.words.specs.Bytes.{is_kind, is_word}
-use Rattle.words.specs.Words.{words}
-use Rattle.words.proofs.Cuts.{Cut, behind-blanks, before-blank, no_word, some_word}
+use Rattle.std.proofs.Common.{◌≡◌, ℕ, ◌+◌, true, List, [], ◌∷◌, ◌++◌, length, IsUtf8, refl, append_assoc, append-nil, arith, length-append}
+use Rattle.std.specs.List.{list_all, AllByRecursion}
+use Rattle.std.proofs.Math.Seq.{drop-append-add, get_or-append_seam, take-append_seam}
+use Rattle.std.proofs.lemmas.List.Folds.{list_all-append}
+use Rattle.std.proofs.lemmas.Bool.{cond_both}
+use Rattle.std.proofs.lemmas.Bool.Decides.{nat_tests}
+use Rattle.std.proofs.lemmas.Str.{IsUtf8-drop, IsUtf8-take, lead_after_ascii}
+use Rattle.words.specs.Bytes.{blank, is_solid, is_word}
+use Rattle.words.specs.Words.{before, words, words_after}
 
 -- a word, and text
 pub record Solid (w : List ℕ) : Type 0 where
   pub one : is_word w ≡ true
   pub text : IsUtf8 w
 
--- the front that passes a test passes it
-every-taken : (p : ℕ → Bool) (bs : List ℕ) → list_all p (take (prefix_len p bs) bs) ≡ true
-every-taken p [] = refl
-every-taken p (b ∷ bs) = step (p b) refl (every-taken p bs)
-  where
-    step : (t : Bool) → p b ≡ t → list_all p (take (prefix_len p bs) bs) ≡ true → list_all p (take (prefix_len p (b ∷ bs)) (b ∷ bs)) ≡ true
-    step true e again = rw (e, one-add) (rw e again)
-    step false e again = rw e refl
+-- what stands before and behind a blank is text
+cut-text : (w bs : List ℕ) (b : ℕ) → blank b ≡ true → IsUtf8 (w ++ b ∷ bs) → IsUtf8 w × IsUtf8 bs
+cut-text w bs b t u =
+    let seam = get_or-append_seam w b bs 0 in
+    let long = length-append w (b ∷ bs) in
+    let behind = lead_after_ascii (w ++ b ∷ bs) (length w) u in
+    let front = IsUtf8-take (w ++ b ∷ bs) (length w) u (grind (arith, nat_tests)) in
+    let back = IsUtf8-drop (w ++ b ∷ bs) (length w + 1) u (grind (arith, nat_tests)) in
+    (rw take-append_seam at front, rw drop-append-add at back)
 
-word-is : (w : List ℕ) → 0 < length w → list_all (is_kind SolidKind) w ≡ true → is_word w ≡ true
-word-is [] h e = absurd (omega arith)
-word-is (b ∷ w) h e = e
+parts-before : (w : List ℕ) (ws : List (List ℕ)) → list_all is_solid w ≡ true → IsUtf8 w → AllByRecursion Solid ws → AllByRecursion Solid (before w ws)
+parts-before [] ws e u p = p
+parts-before (b ∷ w) ws e u p = (record { one = e; text = u }, p)
 
-module _ (bs : List ℕ) (u : IsUtf8 bs) (n : ℕ) (few : length bs ≤ suc n) (again : (r : List ℕ) → length r ≤ n → IsUtf8 r → AllByRecursion Solid (words r)) where
-  left : List ℕ
-  left = drop (prefix_len (is_kind Blank) bs) bs
-
-  word : List ℕ
-  word = take (prefix_len (is_kind SolidKind) left) left
-
-  rest : List ℕ
-  rest = drop (prefix_len (is_kind SolidKind) left) left
-
-  cut : Cut bs left word rest
-  unfolding left word rest
-  cut = record { behind = refl; front = refl; back = refl }
-
-  left-text : IsUtf8 left
-  unfolding left
-  left-text = IsUtf8-drop bs (prefix_len (is_kind Blank) bs) u (behind-blanks bs u)
-
-  shorter : length left ≤ length bs
-  unfolding left
-  shorter = omega (arith, length-drop (prefix_len (is_kind Blank) bs) bs)
-
-  some : 0 < length word → AllByRecursion Solid (words bs)
-  unfolding word rest
-  some h =
-      let m : ℕ = prefix_len (is_kind SolidKind) left in
-      let le = prefix_len-le-length (is_kind SolidKind) left in
-      let long : length word ≡ m = length-take-le m left le in
-      let less : length rest ≡ length left - m = length-drop m left in
-      let within : length left ≤ length bs = shorter in
-      subst (AllByRecursion Solid) (sym (some_word cut h)) (
-        record { one = word-is word h (every-taken (is_kind SolidKind) left); text = IsUtf8-take left m left-text (before-blank left) },
-        again rest (omega arith) (IsUtf8-drop left m left-text (before-blank left)),
-      )
-
-  pub parts_more : AllByRecursion Solid (words bs)
-  parts_more = ⊎_elim some (λ h. subst (AllByRecursion Solid) (sym (no_word cut (omega arith)).0) tt) (cases_lt 0 (length word))
-
-parts-of : (n : ℕ) (bs : List ℕ) → length bs ≤ n → IsUtf8 bs → AllByRecursion Solid (words bs)
-parts-of zero [] h u = tt
-parts-of zero (b ∷ bs) h u = absurd (omega arith)
-parts-of (suc n) bs h u = parts_more bs u n h (parts-of n)
+parts-after : (w bs : List ℕ) → list_all is_solid w ≡ true → IsUtf8 (w ++ bs) → AllByRecursion Solid (words_after w bs)
+parts-after w [] e u = parts-before w [] e (rw append-nil at u) tt
+parts-after w (b ∷ bs) e u =
+    cond_both (blank b) (before w (words bs)) (words_after (w ++ b ∷ []) bs) (AllByRecursion Solid)
+    (λ t. let cut = cut-text w bs b t u in parts-before w (words bs) e cut.0 (parts-after [] bs refl cut.1))
+    (λ t. parts-after (w ++ b ∷ []) bs (grind (arith, nat_tests, list_all-append)) (rw append_assoc u))
 
 pub parts : (bs : List ℕ) → IsUtf8 bs → AllByRecursion Solid (words bs)
-parts bs u = parts-of (length bs) bs (omega arith) u
+parts bs u = parts-after [] bs refl u

@@ -35,6 +35,7 @@ impl<'a> Iterator for Words<'a> {
 
     ghost remaining = { item_count left };
 
+    #[tactic(auto, using(crate::proofs::Cuts::behind_blanks, crate::proofs::Cuts::before_blank, crate::proofs::Cuts::first_cut))]
     fn next(&mut self) -> Option<&'a str> {
         let line = self.rest;
         let (_, line) = line.split_at(Kind::Blank.front(line.as_bytes()));

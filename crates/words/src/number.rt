@@ -16,6 +16,7 @@ pub enum NotNumber {
 }
 
 // The number that a word is in decimal digits, if it fits 64 bits. `parse` alone would take a plus in front.
+#[tactic(auto, using(std::proofs::lemmas::Bool::Decides::nat_tests, crate::proofs::Decimals::number_is))]
 pub fn number(word: &str) -> Result<u64, NotNumber>
     ensures { result ≡ number_of word.now }
 {
