@@ -22,12 +22,12 @@ answer_text (Value n) = codes "ok " ++ decimal n
 answer_text (Bytes s) = bytes_text (shown_bytes s)
 
 abbrev pub about_text : About → List ℕ
-about_text (Blocks n) = decimal n ++ codes " blocks"
+about_text (Blocks n) = codes ": " ++ (decimal n ++ codes " blocks")
 
 -- What a refusal is about stands behind its words, if it is about anything.
 abbrev pub behind : Option About → List ℕ
 behind None = []
-behind (Some a) = codes ": " ++ about_text a
+behind (Some a) = about_text a
 
 abbrev pub failure_text : Failure → List ℕ
 failure_text (Refused r a) = codes "error " ++ (decimal (number_of r) ++ (codes ": " ++ (words_of r ++ behind a)))

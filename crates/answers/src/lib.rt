@@ -12,14 +12,14 @@ use std::error::Error;
 use std::fmt;
 
 // What a line that was done gives.
-#[derive(Clone, Copy)]
+#[derive(Clone, Copy, PartialEq, Eq, Debug)]
 pub enum Answer<'a> {
     Done,
     Value(u64),
     Bytes(Shown<'a>),
 }
 
-// What a refusal is about.
+// What a refusal is about, as it stands behind its words.
 #[derive(Clone, Copy, PartialEq, Eq, Debug)]
 pub enum About {
     Blocks(u64),
@@ -63,7 +63,7 @@ impl fmt::Display for About {
 
     fn fmt<W: fmt::Write>(&self, f: &mut fmt::Formatter<W>) -> fmt::Result {
         match self {
-            About::Blocks(n) => write!(f, "{n} blocks"),
+            About::Blocks(n) => write!(f, ": {n} blocks"),
         }
     }
 }
@@ -80,7 +80,7 @@ impl fmt::Display for Failure {
             Failure::Refused {
                 refusal,
                 about: Some(about),
-            } => write!(f, "error {}: {refusal}: {about}", refusal.number()),
+            } => write!(f, "error {}: {refusal}{about}", refusal.number()),
             Failure::Misread(trouble) => write!(f, "error: {trouble}"),
             Failure::NotYet => f.write_str("error: not yet"),
         }

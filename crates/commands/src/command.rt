@@ -1,5 +1,5 @@
 // The commands that a line can begin with.
-ghost use Rattle.std.specs.Prelude.{◌≡◌, Some, IfErr};
+ghost use Rattle.std.specs.Prelude.{◌≡◌, Some, Ok, IfErr};
 ghost use Rattle.std.specs.Result.{result_ok};
 ghost use Rattle.commands.specs.Commands.{command_of, named_in, usage_of, word_of};
 ghost use Rattle.commands.specs.declared.trouble.Trouble.TheVariants.{NoCommand};
@@ -68,8 +68,12 @@ impl FromStr for Command {
 
     ghost from_str_gives = { λ name r. (result_ok r ≡ command_of name) × IfErr r (λ e. e ≡ NoCommand) };
 
-    // The command of this name.
-    fn from_str(name: &str) -> Result<Command, Trouble> {
+    // The command of this name; a command's own word is its name.
+    #[tactic(auto, using(crate::proofs::Names::named_again))]
+    fn from_str(name: &str) -> Result<Command, Trouble>
+        ensures reads { (result_ok result ≡ command_of name.now) × IfErr result (λ e. e ≡ NoCommand) }
+        ensures again { (c : Command) → name.now ≡ word_of c → result ≡ Ok c }
+    {
         among(&ALL, name).ok_or(Trouble::NoCommand)
     }
 }

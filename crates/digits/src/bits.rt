@@ -15,7 +15,7 @@ use words::byte::Kind;
 pub struct NotBits;
 
 // One character for each, first to last.
-#[derive(Clone, Copy)]
+#[derive(Clone, Copy, PartialEq, Eq, Debug)]
 pub struct Bits<'a> {
     digits: &'a str,
     ghost bits: { list_all (is_kind Bit) digits.now ≡ true },

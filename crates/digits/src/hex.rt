@@ -19,7 +19,7 @@ pub enum NotHex {
 }
 
 // Two digits for each byte, the higher first, in upper or lower case.
-#[derive(Clone, Copy)]
+#[derive(Clone, Copy, PartialEq, Eq, Debug)]
 pub struct Hex<'a> {
     digits: &'a str,
     // So there are no more bytes than a block has.

@@ -7,7 +7,7 @@ ghost use Rattle.digits.specs.Shown.{shown_bytes};
 use std::fmt;
 
 // Bytes that are written with two digits each, in lower case.
-#[derive(Clone, Copy)]
+#[derive(Clone, Copy, PartialEq, Eq, Debug)]
 pub struct Shown<'a> {
     bytes: &'a [u8],
 }
@@ -44,7 +44,7 @@ impl fmt::Display for Shown<'_> {
     }
 }
 
-// Two characters. `{b:02x}` says the same, and takes more than twice the time.
+// Two characters. `{b:02x}` says the same, but its proof does not close in the loop, and here it takes several times as long (bench/show).
 fn write_byte<W: fmt::Write>(f: &mut fmt::Formatter<W>, b: u8) -> fmt::Result
     ensures { WritesOnOk W.write_str_gives f.old result (hex_of (b ∷ [])) f.new }
 {

@@ -4,7 +4,7 @@ use digits::hex::Hex;
 
 // A call. Numbers are as they were written: which disks, holds and slots there are, is the volume's to say. A number that names one of
 // these and passes 64 bits stands as the largest of 64 bits, which names none either.
-#[derive(Clone, Copy)]
+#[derive(Clone, Copy, PartialEq, Eq, Debug)]
 pub enum Call<'a> {
     Format {
         blocks: u64,
@@ -61,7 +61,7 @@ pub enum Call<'a> {
 
 // A line: a call that is answered; a stop of the machine, which keeps these of the waiting sectors; or a call that such a stop cuts short
 // after so many of its requests to the device.
-#[derive(Clone, Copy)]
+#[derive(Clone, Copy, PartialEq, Eq, Debug)]
 pub enum Line<'a> {
     Plain(Call<'a>),
     Power {

@@ -148,6 +148,6 @@ limits-kept n number calls e lt =
     let r = in-range n e in
     record { within = ok; fits = λ d m. disk-fits v inv ok d m; number = same.0; blocks = omega (arith, same.1, length-unused n, r.0) }
 
-pub limits-reached : LimitsReached
+pub limits_reached_lem : LimitsReached
 unfolding look_in put_in remove_in rising free_all
-limits-reached = record { disks = refl; ninth = refl; holds = refl; seventeenth = refl; last = refl; past = refl; all = refl }
+limits_reached_lem = record { disks = refl; ninth = refl; holds = refl; seventeenth = refl; last = refl; past = refl; all = refl }

@@ -22,8 +22,7 @@ use Rattle.model.proofs.Lines.{present-rises as line-rises}
 use Rattle.model.proofs.Maps.{rise-parts, look-past, look-here, look-above, look_none, by_order}
 use Rattle.model.proofs.Sums.{split}
 
--- A MAP shows a block, counted and by slots.
--- a slot that shows something shows an entry of the map
+-- A MAP shows a block, counted and by slots: a slot that shows something shows an entry of the map
 pub look-sum : (w : Ptr → ℕ) (s : ℕ) (p : Ptr) (m : Map) → look_in s m ≡ At p → w p ≤ sum w (shown_by m)
 look-sum w s p [] e = let z : Empty ≡ At p = sym (look_none s) ∙ e in absurd cc
 look-sum w s p (e ∷ m) h =

@@ -1,4 +1,4 @@
-// The laws of a volume. Each is the contract of a function, so that the check asks for its proof.
+// The laws of a volume. Each is the contract of a function of its own name, so that the check asks for its proof; they share nothing else.
 ghost use Rattle.model.specs.Bounds.{LimitsKept, LimitsReached};
 ghost use Rattle.model.specs.Exactly.{Exactly};
 ghost use Rattle.model.specs.Freed.{FreedRight, OneList, ToldBefore, Turning};
@@ -30,6 +30,7 @@ pub fn told_before()
 {}
 
 // A release looks at one list and one moment, and at nothing else.
+#[tactic(auto, using(crate::proofs::Told::one_list))]
 pub fn told_from_one_list()
     ensures { OneList }
 {}
@@ -75,6 +76,7 @@ pub fn streams_taken()
 {}
 
 // A call is refused by the lowest number that applies, and changes nothing then; where none applies it is done.
+#[tactic(auto, using(crate::proofs::Refused::judgement))]
 pub fn judged()
     ensures { Judgement }
 {}
@@ -90,6 +92,7 @@ pub fn limits_kept()
 {}
 
 // 8 disks and 16 holds can be there, and not one more.
+#[tactic(auto, using(crate::proofs::Fits::limits_reached_lem))]
 pub fn limits_reached()
     ensures { LimitsReached }
 {}

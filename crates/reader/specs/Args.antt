@@ -38,6 +38,7 @@ number_in ws = then (word_in ws) (λ w. capped (number_of w))
 abbrev pub exact_in : List (List ℕ) → Result ℕ Why
 exact_in ws = then (word_in ws) (λ w. mapped_err Number (number_of w))
 
+-- Digits without a fault, or what their fault is.
 abbrev pub fine : List ℕ → Option NotHex → Result (Option (List ℕ)) Why
 fine ds None = Ok (Some ds)
 fine ds (Some e) = Err (Hex e)

@@ -50,8 +50,8 @@ pub(crate) fn bits<'a>(word: Option<&'a str>) -> Result<Bits<'a>, Why>
 pub(crate) fn end(mut args: Words<'_>) -> Result<(), Why>
     ensures { result ≡ end_in (left args.entry) }
 {
-    match args.next() {
-        None => Ok(()),
-        Some(_) => Err(Why::TooMany),
+    if args.next().is_some() {
+        return Err(Why::TooMany);
     }
+    Ok(())
 }

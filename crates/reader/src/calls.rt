@@ -70,7 +70,7 @@ fn asked<'a>(command: Command, args: &mut Words<'a>) -> Result<Call<'a>, Why>
     }
 }
 
-// A call: what the words ask for, and nothing behind them.
+// A call: what the words ask for, and nothing behind them. A command and its words are two parameters: in a struct each contract would name two fields.
 fn whole<'a>(command: Command, mut args: Words<'a>) -> Result<Call<'a>, Why>
     ensures { mapped_ok asked result ≡ call_in command (left args.entry) }
 {

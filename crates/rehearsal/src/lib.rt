@@ -14,7 +14,7 @@ use rules::limits::{FIRST_BLOCK, blocks_of};
 use rules::refusal::Refusal;
 
 // A device that was formatted: how many blocks it has, how many of these the volume on it, and the volume's number.
-#[derive(Clone, Copy)]
+#[derive(Clone, Copy, PartialEq, Eq, Debug)]
 pub struct Formatted {
     device: u32,
     blocks: u32,
@@ -22,7 +22,7 @@ pub struct Formatted {
 }
 
 // A rehearsal: without a device, until the first one was formatted.
-#[derive(Clone, Copy)]
+#[derive(Clone, Copy, PartialEq, Eq, Debug)]
 pub struct Rehearsal {
     device: Option<Formatted>,
 }
@@ -49,12 +49,8 @@ impl Rehearsal {
         ensures { result ≡ formatted self.now.device n number }
     {
         let blocks = blocks_of(n)?;
-        let device = match self.device {
-            None => blocks,
-            Some(old) if blocks <= old.device => old.device,
-            Some(_) => return None,
-        };
-        Some(Formatted {
+        let device = self.device.map_or(blocks, |old| old.device);
+        (blocks <= device).then_some(Formatted {
             device,
             blocks,
             number,

@@ -35,11 +35,13 @@ impl Refusal {
     {
         self as u8
     }
+}
 
-    fn words(self) -> &'static str
-        ensures { result.now ≡ words_of self }
-    {
-        match self {
+impl fmt::Display for Refusal {
+    ghost output = { λ x. Some (words_of x) };
+
+    fn fmt<W: fmt::Write>(&self, f: &mut fmt::Formatter<W>) -> fmt::Result {
+        f.write_str(match self {
             Refusal::Missing => "no such disk, hold, slot or number of blocks",
             Refusal::Full => "no block is left that may be used",
             Refusal::TooMuch => "no room for another disk, hold or slot",
@@ -49,15 +51,7 @@ impl Refusal {
             Refusal::Unfit => "no stream that the disk can take",
             Refusal::NoVolume => "no volume on the device",
             Refusal::Spent => "no moment or name is left",
-        }
-    }
-}
-
-impl fmt::Display for Refusal {
-    ghost output = { λ x. Some (words_of x) };
-
-    fn fmt<W: fmt::Write>(&self, f: &mut fmt::Formatter<W>) -> fmt::Result {
-        f.write_str(self.words())
+        })
     }
 }
 

@@ -21,6 +21,7 @@ pub struct Words<'a> {
 }
 
 impl<'a> Words<'a> {
+    // The walk begins; a `From` would promise the same value in another type.
     pub fn of(line: &'a str) -> Words<'a>
         ensures { left result ≡ words line.now }
     {

@@ -9,7 +9,7 @@ use std::fmt;
 // Why a word is not a number of 64 bits.
 #[derive(Clone, Copy, PartialEq, Eq, Debug)]
 pub enum NotNumber {
-    // Something in it is no digit.
+    // No digit at all, or something that is none.
     NoDigits,
     // A number that is too large for that.
     TooLarge,
