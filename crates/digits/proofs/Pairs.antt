@@ -3,7 +3,7 @@ use Rattle.std.proofs.Common.{◌≡◌, ℕ, ◌/◌, ◌≤◌, List, [], ◌�
 use Rattle.std.proofs.lemmas.Bool.Decides.{nat_tests}
 use Rattle.digits.specs.HexText.{bytes_of, hex_fault}
 
-length-bytes_of : (ds : List ℕ) → length (bytes_of ds) ≡ length ds / 2
+pub length-bytes_of : (ds : List ℕ) → length (bytes_of ds) ≡ length ds / 2
 length-bytes_of [] = refl
 length-bytes_of (h ∷ []) = refl
 length-bytes_of (h ∷ l ∷ ds) = omega (arith, length-bytes_of ds)

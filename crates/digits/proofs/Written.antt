@@ -6,7 +6,7 @@ use Rattle.std.proofs.Output.{has_written_append, has_written_of_eq}
 use Rattle.std.proofs.lemmas.List.{take_more}
 use Rattle.digits.specs.HexText.{hex_char, hex_of}
 
-hex_of-append : (xs ys : List ℕ) → hex_of (xs ++ ys) ≡ hex_of xs ++ hex_of ys
+pub hex_of-append : (xs ys : List ℕ) → hex_of (xs ++ ys) ≡ hex_of xs ++ hex_of ys
 hex_of-append [] ys = refl
 hex_of-append (x ∷ xs) ys = ap (λ l. hex_char (x / 16) ∷ hex_char (x % 16) ∷ l) (hex_of-append xs ys)
 

@@ -1,5 +1,5 @@
 -- The zeros at the end of a list. Assumes nothing.
-use Rattle.std.proofs.Common.{◌≡◌, ℕ, ◌-◌, cond, ◌&&◌, ◌==◌, List, [], ◌∷◌, ◌++◌, length, get_or, take, refl, arith}
+use Rattle.std.proofs.Common.{◌≡◌, ℕ, zero, suc, ◌-◌, true, cond, ◌&&◌, ◌==◌, List, [], ◌∷◌, ◌++◌, length, get_or, take, refl, arith}
 use Rattle.std.proofs.lemmas.Bool.Decides.{nat_tests}
 use Rattle.std.proofs.lemmas.Grind.{common_steps}
 use Rattle.digits.specs.HexText.{all_zero, trimmed}
@@ -19,3 +19,8 @@ trimmed_last (b ∷ bs) =
     let split : take (length (b ∷ bs) - 1) (b ∷ bs) ++ get_or (b ∷ bs) (length (b ∷ bs) - 1) 0 ∷ [] ≡ b ∷ bs = grind (arith, common_steps) in
     let last = trimmed-append (take (length (b ∷ bs) - 1) (b ∷ bs)) (get_or (b ∷ bs) (length (b ∷ bs) - 1) 0) in
     rw split at last
+
+zero-at : (bs : List ℕ) (k : ℕ) → all_zero bs ≡ true → get_or bs k 0 ≡ 0
+zero-at [] k e = refl
+zero-at (b ∷ bs) zero e = grind (arith, nat_tests)
+zero-at (b ∷ bs) (suc k) e = zero-at bs k (grind (arith, nat_tests))

@@ -3,8 +3,7 @@ ghost use Rattle.std.specs.Prelude.{◌≡◌, ◌≤◌, [], ◌++◌, length, 
 ghost use Rattle.input.specs.Pieces.{line_in, most, passed};
 ghost use Rattle.input.specs.Steps.{next_after};
 
-use crate::next::{Next, after_all};
-use memchr::memchr;
+use crate::next::{Next, after_all, line_end};
 use reader::LONGEST;
 use std::alloc::{AllocError, Global};
 use std::io;
@@ -16,7 +15,7 @@ const MOST: usize = LONGEST + 1;
 // What is held of a line. There is room for all that is ever held.
 #[derive(Drop)]
 pub struct LineBuffer {
-    bytes: Vec<u8>,
+    pub bytes: Vec<u8>,
     ghost room: { most ≤ vec_capacity bytes },
     ghost few: { vec_len bytes ≤ most },
 }
@@ -56,7 +55,7 @@ impl LineBuffer {
         ensures next { result.next ≡ next_after self.old.bytes.items chunk.now }
     {
         let held = self.bytes.len();
-        match memchr(b'\n', chunk) {
+        match line_end(chunk) {
             Some(n) => {
                 self.keep(&chunk[..n]);
                 Piece {

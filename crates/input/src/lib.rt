@@ -3,4 +3,4 @@
 #![tactic(auto)]
 
 pub mod buffer;
-mod next;
+pub mod next;

@@ -3,7 +3,7 @@ use Rattle.std.proofs.lemmas.Bool.Decides.{nat_tests}
 use Rattle.std.proofs.Common.{◌≡◌, ℕ, ◌+◌, ◌<◌, true, ◌⊎◌, List, [], ◌++◌, arith}
 use Rattle.std.proofs.lemmas.List.{get_or-set_same}
 use Rattle.std.proofs.lemmas.Bool.{ne_eqb}
-use Rattle.model.specs.Blocks.{is, is_free, use_at, used_at, free_all, used_by}
+use Rattle.model.specs.Blocks.{is, is_free, use_at, used_at, free_all, used_by, is_used}
 use Rattle.model.specs.Freed.{may}
 use Rattle.model.specs.Maps.{shown_in}
 use Rattle.model.specs.Sums.{bit, sum}
@@ -31,6 +31,9 @@ pub not-moved : (us : List Use) → Moved us us [] []
 not-moved us = grind (arith, nat_tests)
 
 -- a use by its test
+pub is-used : (u : Use) → is_used u ≡ true → u ≡ Used
+is-used u h = grind (arith, nat_tests)
+
 pub is_free_lem : (u : Use) → is_free u ≡ true → u ≡ Free
 is_free_lem u h = grind (arith, nat_tests)
 

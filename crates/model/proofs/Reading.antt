@@ -22,6 +22,7 @@ use Rattle.model.specs.Volume.{Disk, Volume, blank, disk_at, place_of, holder_of
 use Rattle.model.specs.declared.types.HoldHead.{HoldHead}
 use Rattle.model.specs.declared.types.Mark.{Mark}
 use Rattle.model.specs.declared.types.Ptr.{Ptr}
+use Rattle.model.specs.declared.types.Slot.{Slot}
 use Rattle.model.specs.declared.types.Slot.TheVariants.{At}
 use Rattle.model.proofs.Disks.{disk-there, disk-name, holder-there, find-named, mem-at}
 use Rattle.model.proofs.Lines.{present-rises}
@@ -46,6 +47,9 @@ reads_hold-map x j t = ap (read_by t.bytes) (readhold-seen x j t.volume)
 
 read-in : (f : Bytes) (m : Map) (j : ℕ) → j < most_slots → read_map f (Some m) j ≡ Ok (bytes_of f (look_in j m))
 read-in f m j lt = rw (lt-leb most_slots j lt)
+
+same_bytes : (f g : Bytes) (x : Slot) → ((p : Ptr) → x ≡ At p → g p.block ≡ f p.block) → bytes_of g x ≡ bytes_of f x
+same_bytes f g x h = grind (arith, nat_tests)
 
 -- two maps, with two devices' bytes, that read the same in a slot
 read_same : (f g : Bytes) (m n : Map) (j : ℕ) → look_in j n ≡ look_in j m → ((p : Ptr) → look_in j m ≡ At p → g p.block ≡ f p.block) → read_map g (Some n) j ≡ read_map f (Some m) j

@@ -1,5 +1,5 @@
 -- A call is refused by the lowest number that applies, and changes nothing then.
-use Rattle.std.proofs.Common.{◌≡◌, ℕ, suc, ◌<◌, ◌≤◌, Bool, true, false, cond, List, [], ◌∷◌, map, Some, None, Ok, Err, Option, sym, refl, ap, ◌∙◌, arith}
+use Rattle.std.proofs.Common.{◌≡◌, ℕ, suc, ◌<◌, ◌≤◌, Bool, true, false, cond, List, [], ◌∷◌, map, Some, None, Ok, Err, Option, Result, sym, refl, ap, ◌∙◌, arith}
 use Rattle.std.proofs.lemmas.Bool.Decides.{nat_tests}
 use mathlib.Core.List.{Memᴰ}
 use Rattle.std.proofs.lemmas.Bool.{true≢false}
@@ -11,6 +11,9 @@ use Rattle.model.specs.Refusals.{Applies, Judgement}
 use Rattle.model.specs.Runs.{Reason, told, reasons, refusal, does, decided}
 use Rattle.model.specs.Volume.{Volume}
 use Rattle.model.proofs.Maps.{rise-parts}
+
+ok≢err : {X Y : Type 0} (a : X) (r : Y) → ◌≡◌ {A = Result X Y} (Ok a) (Err r) → ⊥
+ok≢err a r e = cc
 
 -- the numbers of each call's reasons rise
 abbrev numbers : List Reason → List ℕ

@@ -100,6 +100,10 @@ unnamed-hold : (x : ℕ) (hs : List Hold) → sum (λ h. named x h.name) hs ≡ 
 unnamed-hold x [] e = refl
 unnamed-hold x (h ∷ hs) e = let again = unnamed-hold x hs (omega arith) in grind (arith, nat_tests)
 
+pub unnamed-find : (x : ℕ) (ds : List Disk) → sum (names_in x) ds ≡ 0 → find x ds ≡ None
+unnamed-find x [] e = refl
+unnamed-find x (d ∷ ds) e = rw (unnamed-hold x d.holds (omega arith)) (unnamed-find x ds (omega arith))
+
 find-last : (x : ℕ) (hs : List Hold) (h : Hold) → sum (λ k. named x k.name) hs ≡ 0 → h.name ≡ x → find_hold x (hs ++ h ∷ []) ≡ Some (past h)
 find-last x [] h e n = rw (eq-eqb h.name x n)
 find-last x (k ∷ hs) h e n = let again = find-last x hs h (omega arith) n in grind (arith, nat_tests)

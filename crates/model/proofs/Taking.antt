@@ -2,6 +2,7 @@
 use Rattle.std.proofs.lemmas.Bool.Decides.{nat_tests}
 use Rattle.std.proofs.Common.{◌≡◌, ℕ, zero, suc, ◌+◌, ◌<◌, ◌≤◌, Bool, true, false, cond, not, eqb, ltb, leb, List, [], ◌∷◌, ◌++◌, length, Some, None, Ok, Err, Option, Result, sym, refl, ap, ◌∙◌, subst, ⊎_elim, arith}
 use mathlib.Core.List.Memᴰ
+use Rattle.model.specs.declared.types.Mark.{Mark}
 use Rattle.model.specs.Blocks.{usable, lowest_in, use_at, used_at, is_full}
 use Rattle.std.proofs.lemmas.List.{get_or-set_same}
 use Rattle.std.proofs.lemmas.Bool.{true≢false, ltb-false, lt-leb, eq-eqb, ne_eqb, cases_eq, and_from, le-leb, lt-ltb, or_right, not_from_false}
@@ -19,7 +20,7 @@ use Rattle.model.specs.Steps.{change}
 use Rattle.model.specs.Steps.{Change, Put, slot_for, showing, change_at, changes_at, put_for, puts_at, held}
 use Rattle.model.specs.Store.{Bytes, laid, Store, play, stored}
 use Rattle.model.specs.Streams.{content, differs, changes_from, mark_of, older_mark, stream_of, found_by, finds, Takes, StreamsTaken}
-use Rattle.model.specs.Tests.{front, written, writes, follows, unfit, changes_rise}
+use Rattle.model.specs.Tests.{front, written, writes, follows, unfit, changes_rise, is_new}
 use Rattle.model.specs.Volume.{Disk, Volume, blank, disk_at, place_of}
 use Rattle.model.specs.declared.types.Ptr.{Ptr}
 use Rattle.model.specs.declared.types.Slot.{Slot}
@@ -138,6 +139,9 @@ finds-in : (y s : ℕ) (u : Store) (m : Map) → seen y u.volume.disks ≡ Some 
 finds-in y s u m e lt = ap (found_by u.bytes) (read-seen y s u.volume ∙ ap (λ n. answer_of n s) e) ∙ rw (lt-leb most_slots s lt)
 
 -- THE SAME STREAM isn't taken twice
+never-new : (d : Disk) (m : Mark) → d.mark ≡ Some m → is_new d ≡ false
+never-new d m e = grind (arith, nat_tests)
+
 no-follow : (t : Store) (older : Option Past) (newer : Past) (d : Disk) → (past_of older).moment < newer.moment → d.mark ≡ Some (mark_of t newer) → follows (older_mark t older) d ≡ false
 no-follow t older newer d lt e = grind (arith, nat_tests)
 

@@ -6,7 +6,7 @@ use Rattle.std.proofs.lemmas.Bool.Decides.{nat_tests}
 use Rattle.words.proofs.Decimals.{decimal-solid, of-kind}
 use Rattle.words.proofs.Parts.{Solid}
 use Rattle.digits.specs.Bits.{bits_text}
-use Rattle.words.specs.Bytes.{is_bit, is_hex}
+use Rattle.words.specs.Bytes.{is_bit, is_hex, is_word}
 use Rattle.words.specs.Words.{spaced}
 use Rattle.lines.specs.Lines.{Asked, Said, Write, Plain, Power, Cut}
 use Rattle.lines.specs.Texts.{line_words, words_of}
@@ -22,7 +22,7 @@ bits (x ∷ b) e = of-kind is_bit (λ b e. grind (arith, nat_tests)) (x ∷ b) (
 -- what the words of a line are
 ruleset solids = (decimal-solid, bytes, bits)
 
-call-solid : (a : Asked) → ProperCall a → AllByRecursion Solid (words_of a)
+pub call-solid : (a : Asked) → ProperCall a → AllByRecursion Solid (words_of a)
 call-solid (Write d s None) p = search (rules, solids)
 call-solid a p = search (rules, solids)
 
@@ -35,3 +35,7 @@ pub spaced-text : (ws : List (List ℕ)) → AllByRecursion Solid ws → IsUtf8 
 spaced-text [] h = IsUtf8-nil
 spaced-text (w ∷ []) h = h.0.text
 spaced-text (w ∷ v ∷ ws) h = IsUtf8-append w _ h.0.text (IsUtf8-append (32 ∷ []) _ (search rules) (spaced-text (v ∷ ws) h.1))
+
+pub all_words : (ws : List (List ℕ)) → AllByRecursion Solid ws → AllByRecursion (λ w. is_word w ≡ true) ws
+all_words [] h = tt
+all_words (w ∷ ws) h = (h.0.one, all_words ws h.1)

@@ -1,7 +1,7 @@
 -- Where a line is cut into words. Assumes nothing.
-use Rattle.std.proofs.Common.{◌≡◌, ℕ, ◌+◌, ◌-◌, ◌<◌, eqb, List, [], ◌∷◌, ◌++◌, length, get_or, drop, IsUtf8, refl, ◌⊎◌, inl, append_assoc, append-nil, one-add, arith}
+use Rattle.std.proofs.Common.{◌≡◌, ℕ, ◌+◌, ◌-◌, ◌<◌, Bool, true, eqb, List, [], ◌∷◌, ◌++◌, length, get_or, take, drop, IsUtf8, refl, ◌⊎◌, inl, append_assoc, append-nil, one-add, arith}
 use Rattle.std.specs.Str.{IsCharBoundary}
-use Rattle.std.specs.List.{prefix_len, take_while}
+use Rattle.std.specs.List.{list_all, prefix_len, take_while}
 use Rattle.std.proofs.lemmas.List.Sums.{prefix_len-le-length, prefix_len_passes, prefix_len_stops}
 use Rattle.std.proofs.lemmas.Bool.{cond_both}
 use Rattle.std.proofs.lemmas.Str.{IsCharBoundary-start, lead_after_ascii}
@@ -23,7 +23,7 @@ pub before_blank : (bs : List ℕ) → IsCharBoundary bs (prefix_len (is_kind So
 before_blank bs = grind (arith, nat_tests, prefix_len-le-length, prefix_len_stops)
 
 -- what is left of a word, and the words behind it
-words-cut : (w bs : List ℕ) → words_after w bs ≡ before (w ++ take_while (is_kind Solid) bs) (words (drop (prefix_len (is_kind Solid) bs) bs))
+pub words-cut : (w bs : List ℕ) → words_after w bs ≡ before (w ++ take_while (is_kind Solid) bs) (words (drop (prefix_len (is_kind Solid) bs) bs))
 words-cut w [] = simp append-nil
 words-cut w (b ∷ bs) = let again = words-cut (w ++ b ∷ []) bs in simp one-add (grind (arith, nat_tests, append_assoc, append-nil w))
 
@@ -47,3 +47,12 @@ remark-by b w (c ∷ bs) = let again = remark-by b (w ++ c ∷ []) bs in grind (
 pub remark_is : (bs : List ℕ) → remark (words bs) ≡ eqb (get_or bs (prefix_len (is_kind Blank) bs) 0) 35
 remark_is [] = refl
 remark_is (b ∷ bs) = let again = remark_is bs in let solid = remark-by b [] bs in grind (arith, nat_tests)
+
+-- every byte passes just where the front that passes is all, and the front always does
+pub every_front : (p : ℕ → Bool) (bs : List ℕ) → eqb (prefix_len p bs) (length bs) ≡ list_all p bs
+every_front p [] = refl
+every_front p (b ∷ bs) = let again = every_front p bs in grind (arith, nat_tests)
+
+every-taken : (p : ℕ → Bool) (bs : List ℕ) → list_all p (take (prefix_len p bs) bs) ≡ true
+every-taken p [] = refl
+every-taken p (b ∷ bs) = let again = every-taken p bs in simp one-add (grind (arith, nat_tests))

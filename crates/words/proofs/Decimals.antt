@@ -1,5 +1,5 @@
 -- A number that was written, read again. Assumes nothing.
-use Rattle.std.proofs.Common.{◌≡◌, ℕ, ◌^◌, ◌<◌, Bool, true, List, [], ◌∷◌, length, Ok, decimal, arith, rules}
+use Rattle.std.proofs.Common.{◌≡◌, ℕ, ◌+◌, ◌-◌, ◌*◌, ◌^◌, ◌<◌, ◌≤◌, Bool, true, List, [], ◌∷◌, length, Ok, decimal, arith, rules}
 use Rattle.std.specs.List.{list_all}
 use Rattle.std.specs.Str.Parse.{IsNumeral, digits_value, without_leading_plus}
 use Rattle.std.proofs.lemmas.Fmt.{decimal_nonempty, digits_decimal, digits_value-decimal}
@@ -40,3 +40,8 @@ of-kind p f (b ∷ w) some e = let each = AllPass-from_list_all p (b ∷ w) e in
 
 pub decimal-solid : (n : ℕ) → n < 2 ^ 64 → Solid (decimal n)
 decimal-solid n h = of-kind (is_kind Decimal) (λ b e. grind (arith, nat_tests)) (decimal n) (decimal_nonempty n h) (digits_decimal own n h)
+
+-- digits more make no number smaller
+pub value_grows : (n : ℕ) (bs : List ℕ) → n ≤ value_after n bs
+value_grows n [] = omega arith
+value_grows n (b ∷ bs) = omega (arith, value_grows (n * 10 + (b - 48)) bs)
