@@ -1,14 +1,13 @@
 -- A number that was written, read again. Assumes nothing.
-use Rattle.std.proofs.Common.{◌≡◌, ◌≢◌, ℕ, ◌+◌, ◌-◌, ◌*◌, ◌^◌, ◌<◌, ◌≤◌, Bool, true, List, [], ◌∷◌, length, Ok, Result, decimal, ap, arith, rules}
+use Rattle.std.proofs.Common.{◌≡◌, ℕ, ◌+◌, ◌-◌, ◌*◌, ◌^◌, ◌<◌, ◌≤◌, Bool, true, List, [], ◌∷◌, length, Ok, decimal, arith, rules}
 use Rattle.std.specs.List.{list_all}
-use Rattle.std.specs.Str.Parse.{IsNumeral, ParsesUnsigned, digits_value, without_leading_plus}
+use Rattle.std.specs.Str.Parse.{IsNumeral, digits_value, without_leading_plus}
 use Rattle.std.proofs.lemmas.Fmt.{decimal_nonempty, digits_decimal, digits_value-decimal}
 use Rattle.std.proofs.lemmas.List.Elements.{All-weaker}
 use Rattle.std.proofs.lemmas.List.Sums.{AllPass-from_list_all, list_all-from_AllPass}
 use Rattle.std.proofs.lemmas.Str.{IsUtf8-from_ascii}
 use Rattle.std.proofs.lemmas.Str.Ascii.{IsAscii-from_all}
-use Rattle.std.proofs.lemmas.Str.Parse.{IsNumeralModel, numerals_by_fold, parse_plain}
-use Rattle.std.proofs.lemmas.Result.{OkIff-at_ok}
+use Rattle.std.proofs.lemmas.Str.Parse.{IsNumeralModel, numerals_by_fold}
 use Rattle.std.proofs.lemmas.Bool.Decides.{nat_tests}
 use Rattle.words.specs.declared.byte.Kind.TheVariants.{Decimal}
 use Rattle.words.specs.Bytes.{is_kind, is_solid}
@@ -27,14 +26,6 @@ number_is (b ∷ bs) some all =
     let digits = own.to (b ∷ bs) all in
     let same = own.same (b ∷ bs) digits in
     rw plain (grind (arith, nat_tests), (some, digits))
-
--- and what it read, where no plus stood in front
-pub read_is : {E : Type 0} (bs : List ℕ) (r : Result ℕ E) (n : ℕ) → ((ds : List ℕ) → bs ≡ 43 ∷ ds → ⊥) → ParsesUnsigned 64 10 bs r → r ≡ Ok n → Ok n ≡ number_of bs
-read_is [] r n plain h e = let f = OkIff-at_ok _ _ _ n (parse_plain own 64 [] r h (omega arith)) e in absurd (omega (arith, f))
-read_is (b ∷ bs) r n plain h e =
-    let digit : b ≢ 43 = λ is. plain bs (ap (λ x. x ∷ bs) is) in
-    let f = OkIff-at_ok _ _ _ n (parse_plain own 64 (b ∷ bs) r h digit) e in
-    grind (arith, nat_tests, f)
 
 pub number-again : (n : ℕ) → n < 2 ^ 64 → number_of (decimal n) ≡ Ok n
 number-again n h = grind (arith, nat_tests, decimal_nonempty n h, digits_decimal own n h, digits_value-decimal own n h)

@@ -15,22 +15,15 @@ pub enum NotNumber {
     TooLarge,
 }
 
-// The number that a word is in decimal digits, if it fits 64 bits. `parse` alone would take a plus in front; it comes first, so that the
-// digits of a number are read once.
+// The number that a word is in decimal digits, if it fits 64 bits. `parse` alone would take a plus in front.
 #[tactic(auto, using(std::proofs::lemmas::Bool::Decides::nat_tests, crate::proofs::Decimals::number_is))]
 pub fn number(word: &str) -> Result<u64, NotNumber>
     ensures { result ≡ number_of word.now }
 {
-    if word.starts_with('+') {
-        return Err(NotNumber::NoDigits);
-    }
-    if let Ok(n) = word.parse() {
-        return Ok(n);
-    }
     if word.is_empty() || !Kind::Decimal.all(word.as_bytes()) {
         return Err(NotNumber::NoDigits);
     }
-    Err(NotNumber::TooLarge)
+    word.parse().map_err(|_| NotNumber::TooLarge)
 }
 
 impl fmt::Display for NotNumber {
